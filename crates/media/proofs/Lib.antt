@@ -1,0 +1,2 @@
+pub mod FlatPacks
+pub mod Shelves

@@ -1,0 +1,5 @@
+pub mod Flat
+pub mod Kinds
+pub mod Laws
+pub mod Marks
+pub mod Shelf
