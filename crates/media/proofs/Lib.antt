@@ -1,2 +1,5 @@
+pub mod CardPacks
+pub mod Decks
 pub mod FlatPacks
+pub mod KindRows
 pub mod Shelves

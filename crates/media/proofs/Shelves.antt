@@ -1,18 +1,18 @@
 -- When what stands on a shelf afterwards is what a store leaves.
-use Prim.Native.Nat.{ℕ}
+use Prim.Native.Nat.{ℕ, zero, suc, _<_, zero-le, suc-le-suc}
 use mathlib.Core.Path.{_≡_, refl, ap, _∙_, fun-ext}
 use mathlib.Core.Bool.{Bool, true, false, _&&_, cond}
-use mathlib.Core.List.{List}
+use mathlib.Core.List.{List, [], _∷_}
 use lib.Dec.{eqb}
 use lib.ListN.{length}
-use Rattle.std.proofs.shelf.Tests.{eq-eqb}
+use Rattle.std.proofs.shelf.Tests.{eq-eqb, ne-eqb, false≢true}
 use Rattle.std.specs.Options.{mapped, valueOr}
 use Rattle.std.specs.declared.option.Option.{Option}
 use Rattle.std.specs.declared.option.Option.the-variants.{Some, None}
 use Rattle.std.specs.declared.result.Result.the-variants.{Ok, Err}
-use Rattle.media.specs.Shelf.{Sector, has-block, shelf-of, fetch-reply, fetch-buffer, store-reply, after-store, left-by, stored, rewritten, kept, takes-in}
+use Rattle.media.specs.Shelf.{Sector, Packs, has-block, shelf-of, fetch-reply, fetch-buffer, store-reply, after-store, left-by, stored, rewritten, kept, takes-in}
 use Rattle.media.specs.declared.kinds.Kind.{Kind}
-use Rattle.media.specs.declared.shelf.ShelfRefusal.the-variants.{NotTaking}
+use Rattle.media.specs.declared.shelf.ShelfRefusal.the-variants.{BufferLength, NotTaking}
 
 -- one place, which is there or not and is the stored one or not
 at-place : (there here : Bool) (before after : Sector) (buffer : List ℕ) → (here ≡ true → after ≡ rewritten buffer before) → (there ≡ true → here ≡ false → after ≡ kept (after .takes) before) → cond there (Some after) None ≡ cond here (mapped (rewritten buffer) (cond there (Some before) None)) (mapped (kept (valueOr (mapped (λ s. s .takes) (cond there (Some after) None)) false)) (cond there (Some before) None))
@@ -40,3 +40,13 @@ module _ (kinds : List Kind) (content : ℕ → ℕ → Sector) (pack block : �
   -- a store that is accepted leaves what `stored` says
   pub after-there : (after : ℕ → ℕ → Bool) → content pack block .takes ≡ true → after-store (shelf-of kinds content) pack block buffer after ≡ stored (shelf-of kinds content) pack block buffer after
   after-there after takes = ap (λ r. left-by r (shelf-of kinds content) (stored (shelf-of kinds content) pack block buffer after)) (store-there ∙ ap (λ b. cond b (Ok tt) (Err NotTaking)) takes)
+
+-- a fetch into a buffer that has not 128 words
+pub short-buffer : (shelf : Packs) (pack block : ℕ) (buffer : List ℕ) → (length buffer ≡ 128 → ⊥) → (Err BufferLength ≡ fetch-reply shelf pack block buffer) × (buffer ≡ fetch-buffer shelf pack block buffer)
+short-buffer shelf pack block buffer short = (rw (ne-eqb (length buffer) 128 short), rw (ne-eqb (length buffer) 128 short))
+
+-- a block that is there belongs to a pack that is there
+pub in-row : (kinds : List Kind) (pack block : ℕ) → has-block kinds pack block ≡ true → pack < length kinds
+in-row [] pack block there = absurd (false≢true there)
+in-row (k ∷ kinds) zero block there = suc-le-suc zero-le
+in-row (k ∷ kinds) (suc pack) block there = suc-le-suc (in-row kinds pack block there)

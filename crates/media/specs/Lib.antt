@@ -1,3 +1,4 @@
+pub mod Cards
 pub mod Flat
 pub mod Kinds
 pub mod Laws
