@@ -1,6 +1,10 @@
+pub mod Address
 pub mod Cards
+pub mod Figures
 pub mod Flat
+pub mod Host
 pub mod Kinds
 pub mod Laws
 pub mod Marks
+pub mod Same
 pub mod Shelf
