@@ -1,16 +1,18 @@
--- Proofs that each make of a shelf has what every shelf has, for the makes to cite. There is nothing here to believe.
-use Prim.Native.Nat.{ℕ, zero, suc, _≤_, zero-le, suc-le-suc}
+-- Proofs of what every shelf and every memory owes, for the makes to cite. There is nothing here to believe.
+use Prim.Native.Nat.{ℕ, zero, suc, _%_, _≤_, zero-le, suc-le-suc}
 use mathlib.Core.Path.{_≡_, refl}
-use mathlib.Core.Bool.{Bool, true, false, cond}
+use mathlib.Core.Bool.{Bool, true, false, _&&_, cond}
 use mathlib.Core.List.{List, [], _∷_}
-use lib.Dec.{eqb, lit≤}
+use lib.Dec.{eqb, ltb, lit≤}
 use lib.ListN.{length, take}
 use Rattle.std.specs.Options.{isSome}
 use Rattle.std.specs.declared.option.Option.{Option}
 use Rattle.std.specs.declared.option.Option.the-variants.{Some, None}
+use Rattle.std.proofs.shelf.Tests.{and-parts, eqb-true, ltb-true}
 use Rattle.media.specs.Kinds.{kind-of}
 use Rattle.media.specs.Cards.{and-more, leading-kinds, card-kinds, card-sector, card-packs}
 use Rattle.media.specs.Flat.{whole-pack, flat-kinds, flat-sector, flat-packs}
+use Rattle.media.specs.Memory.{Words, word-limit, Only-even-below-limit, at-places}
 use Rattle.media.specs.Shelf.{Sector, Lawful, shelf-of, has-block}
 use Rattle.media.specs.declared.cards.Card.{Card}
 use Rattle.media.specs.declared.kinds.Kind.{Kind}
@@ -48,3 +50,13 @@ few-cards numbers = few-leading 8 numbers
 
 pub card-lawful : (numbers : List ℕ) (deck : List Card) → Lawful (card-packs numbers deck)
 card-lawful numbers deck = shelf-lawful (card-kinds numbers) (card-sector deck) (few-cards numbers)
+
+-- a memory that keeps to the places of a memory has words nowhere else
+pub at-places-placed : (m : Words) → Only-even-below-limit (at-places m)
+at-places-placed m a w e =
+    let both = and-parts (eqb (a % 2) 0) (ltb a word-limit) (kept (eqb (a % 2) 0 && ltb a word-limit) (m a) e) in
+    (eqb-true (a % 2) 0 (both .0), ltb-true a word-limit (both .1))
+  where
+    kept : (x : Bool) (o : Option ℕ) → cond x o None ≡ Some w → x ≡ true
+    kept true o h = refl
+    kept false o h = cc

@@ -1,4 +1,5 @@
 pub mod Address
+pub mod Board
 pub mod Cards
 pub mod Figures
 pub mod Flat
@@ -6,5 +7,7 @@ pub mod Host
 pub mod Kinds
 pub mod Laws
 pub mod Marks
+pub mod Memory
 pub mod Same
 pub mod Shelf
+pub mod Stack

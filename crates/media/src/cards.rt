@@ -2,7 +2,7 @@
 ghost use Prim.Native.Nat.{ℕ, _<_};
 ghost use mathlib.Core.Bool.{_&&_, cond};
 ghost use mathlib.Core.Path.{_≡_};
-ghost use denote.Ref.{now};
+ghost use denote.Ref.{now, name};
 ghost use lib.ListN.{length, set};
 ghost use Rattle.std.specs.Finite.{nth};
 ghost use Rattle.std.specs.declared.option.Option.the-variants.{Some, None};
@@ -101,7 +101,8 @@ fn earlier(free: Option<usize>, card: &Card, place: usize) -> Option<usize>
 impl<'a> CardShelf<'a> {
     /// A shelf of packs of these kinds over these cards.
     pub fn new(kinds: [u8; 8], cards: &'a mut [Card]) -> CardShelf<'a>
-        ensures { λ r. ⌜ card-packs (r .kinds) (now (r .cards)) ≡ card-packs kinds (now (cards .entry)) ⌝ }
+        ensures meaning { λ r. ⌜ card-packs (r .kinds) (now (r .cards)) ≡ card-packs kinds (now (cards .entry)) ⌝ }
+        ensures lent { λ r. ⌜ r .cards ≡ cards .entry ⌝ }
     {
         CardShelf { kinds, cards }
     }
@@ -171,6 +172,7 @@ pub impl Shelf for CardShelf<'_> as CardShelfShelf {
     fn store(&mut self, pack: u8, block: u16, buffer: &[u16]) -> Result<(), ShelfRefusal>
         ensures reply { λ r. ⌜ r ≡ store-reply (card-packs (now (self .entry) .kinds) (now (now (self .entry) .cards))) pack block (now (buffer .entry)) ⌝ }
         ensures after { λ _. ⌜ card-packs (now (self .exit) .kinds) (now (now (self .exit) .cards)) ≡ after-store (card-packs (now (self .entry) .kinds) (now (now (self .entry) .cards))) pack block (now (buffer .entry)) (takes-in (card-packs (now (self .exit) .kinds) (now (now (self .exit) .cards)))) ⌝ }
+        ensures lender { λ _. ⌜ name (now (self .exit) .cards) ≡ name (now (self .entry) .cards) ⌝ }
         ensures deck { λ _. ⌜ now (now (self .exit) .cards) ≡ card-after (now (self .entry) .kinds) (now (now (self .entry) .cards)) pack block (now (buffer .entry)) ⌝ }
     {
         if buffer.len() != SECTOR_WORDS {

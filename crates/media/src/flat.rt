@@ -2,7 +2,7 @@
 ghost use Prim.Native.Nat.{_+_, _*_, _≤_};
 ghost use mathlib.Core.Bool.{cond};
 ghost use mathlib.Core.Path.{_≡_};
-ghost use denote.Ref.{now};
+ghost use denote.Ref.{now, name};
 ghost use lib.ListN.{length};
 ghost use Rattle.std.specs.Slices.{found};
 ghost use Rattle.std.specs.Vec.{listOf};
@@ -26,7 +26,8 @@ pub struct FlatShelf<'a> {
 impl<'a> FlatShelf<'a> {
     /// A shelf over these words.
     pub fn new(kind: u8, words: &'a mut [u16]) -> FlatShelf<'a>
-        ensures { λ r. ⌜ flat-packs (r .kind) (now (r .words)) ≡ flat-packs kind (now (words .entry)) ⌝ }
+        ensures meaning { λ r. ⌜ flat-packs (r .kind) (now (r .words)) ≡ flat-packs kind (now (words .entry)) ⌝ }
+        ensures lent { λ r. ⌜ r .words ≡ words .entry ⌝ }
     {
         FlatShelf { kind, words }
     }
@@ -91,6 +92,7 @@ pub impl Shelf for FlatShelf<'_> as FlatShelfShelf {
     fn store(&mut self, pack: u8, block: u16, buffer: &[u16]) -> Result<(), ShelfRefusal>
         ensures reply { λ r. ⌜ r ≡ store-reply (flat-packs (now (self .entry) .kind) (now (now (self .entry) .words))) pack block (now (buffer .entry)) ⌝ }
         ensures after { λ _. ⌜ flat-packs (now (self .exit) .kind) (now (now (self .exit) .words)) ≡ after-store (flat-packs (now (self .entry) .kind) (now (now (self .entry) .words))) pack block (now (buffer .entry)) (takes-in (flat-packs (now (self .exit) .kind) (now (now (self .exit) .words)))) ⌝ }
+        ensures lender { λ _. ⌜ name (now (self .exit) .words) ≡ name (now (self .entry) .words) ⌝ }
         ensures slice { λ _. ⌜ now (now (self .exit) .words) ≡ flat-after (now (self .entry) .kind) (now (now (self .entry) .words)) pack block (now (buffer .entry)) ⌝ }
     {
         if buffer.len() != SECTOR_WORDS {

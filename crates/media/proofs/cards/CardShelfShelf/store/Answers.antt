@@ -1,4 +1,4 @@
-use mathlib.Core.Path.{_≡_, sym, ap, subst⁻¹, _∙_}
+use mathlib.Core.Path.{_≡_, refl, sym, ap, subst⁻¹, _∙_}
 use lib.ListN.{set}
 use Rattle.media.specs.Cards.{card-packs, deck-left}
 use Rattle.media.specs.Shelf.{after-store, left-by, stored, takes-in}
@@ -19,6 +19,7 @@ returns-in-Own c =
     record {
       reply = accepted-own numbers deck pack block buffer long there (c .in-Own .i) found;
       after = subst⁻¹ (λ deck′. card-packs numbers deck′ ≡ after-store (card-packs numbers deck) pack block buffer (takes-in (card-packs numbers deck′))) written (stored-own numbers deck pack block buffer long there (c .in-Own .i) found);
+      lender = refl;
       deck = written;
     }
 
@@ -36,6 +37,7 @@ returns-in-Free c =
     record {
       reply = accepted-free numbers deck pack block buffer long there (c .in-Free .i) found;
       after = subst⁻¹ (λ deck′. card-packs numbers deck′ ≡ after-store (card-packs numbers deck) pack block buffer (takes-in (card-packs numbers deck′))) written (stored-free numbers deck pack block buffer long there (c .in-Free .i) found);
+      lender = refl;
       deck = written;
     }
 
@@ -51,5 +53,6 @@ returns-in-Full c =
     record {
       reply = refused;
       after = ap (λ r. left-by r shelf (stored shelf pack block buffer (takes-in shelf))) refused;
+      lender = refl;
       deck = ap (λ r. deck-left r deck pack block buffer) refused;
     }

@@ -1,4 +1,4 @@
-use mathlib.Core.Path.{_≡_, sym, ap, subst⁻¹, _∙_}
+use mathlib.Core.Path.{_≡_, refl, sym, ap, subst⁻¹, _∙_}
 use Prim.Native.Nat.{_+_, _-_}
 use borrow.Rule.Slice.PartMut.{putMid}
 use Rattle.media.specs.Flat.{flat-packs}
@@ -20,5 +20,6 @@ returns c =
     record {
       reply = accepted number slice pack block buffer start long found;
       after = subst⁻¹ (λ slice′. flat-packs number slice′ ≡ after-store (flat-packs number slice) pack block buffer (takes-in (flat-packs number slice′))) copied (stored-flat number slice pack block buffer start long found);
+      lender = refl;
       slice = copied;
     }
