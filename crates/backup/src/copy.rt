@@ -16,8 +16,11 @@ use media::shelf::SECTOR_WORDS;
 use media::shelf::Shelf;
 use media::shelf::ShelfRefusal;
 use media::shelf::ShelfRefusalDebug;
+use media::shelf::ShelfRefusalDisplay;
 use std::alloc::Global;
 use std::alloc::Refused;
+use std::error::Error;
+use std::fmt;
 
 /// What became of a sector.
 #[derive(Clone, Copy, PartialEq, Eq, Debug)]
@@ -123,3 +126,15 @@ fn same_kind<F: Shelf, T: Shelf>(
         Err(CopyError::KindsDiffer)
     }
 }
+
+pub impl fmt::Display for CopyError as CopyErrorDisplay {
+    fn fmt<W: fmt::Write>(&self, f: &mut fmt::Formatter<W>) -> fmt::Result {
+        match self {
+            CopyError::Declined(refusal) => write!(f, "{refusal}"),
+            CopyError::KindsDiffer => f.write_str("the two packs are not of one kind"),
+            CopyError::NoMemory => f.write_str("there is no memory for the list of skipped sectors"),
+        }
+    }
+}
+
+pub impl Error for CopyError as CopyErrorError {}

@@ -1,2 +1,3 @@
-// Copies a pack from one shelf to another, sector by sector, and mends what can be mended.
+// Copies a pack from one shelf to another, sector by sector, and mends damaged sectors.
 pub mod copy;
+pub mod mend;

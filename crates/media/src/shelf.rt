@@ -4,6 +4,8 @@ ghost use lib.ListN.{length};
 ghost use Rattle.media.specs.Shelf.{Packs, Lawful, refusal-number, kind-reply, fetch-reply, fetch-buffer, store-reply, after-store, takes-in};
 use crate::kinds::Kind;
 use crate::marks::Mark;
+use std::error::Error;
+use std::fmt;
 
 /// How many words a sector has.
 pub const SECTOR_WORDS: usize = 128;
@@ -56,3 +58,18 @@ pub trait Shelf {
         ensures reply { λ r. ⌜ r ≡ store-reply (packs (now (self .entry))) pack block (now (buffer .entry)) ⌝ }
         ensures after { λ _. ⌜ packs (now (self .exit)) ≡ after-store (packs (now (self .entry))) pack block (now (buffer .entry)) (takes-in (packs (now (self .exit)))) ⌝ };
 }
+
+pub impl fmt::Display for ShelfRefusal as ShelfRefusalDisplay {
+    fn fmt<W: fmt::Write>(&self, f: &mut fmt::Formatter<W>) -> fmt::Result {
+        let number = self.number();
+        let what = match self {
+            ShelfRefusal::NoPack => "there is no such pack",
+            ShelfRefusal::BufferLength => "the buffer has not 128 words",
+            ShelfRefusal::NoSector => "there is no such sector",
+            ShelfRefusal::NotTaking => "the sector takes no store",
+        };
+        write!(f, "refused {number}: {what}")
+    }
+}
+
+pub impl Error for ShelfRefusal as ShelfRefusalError {}
