@@ -138,16 +138,17 @@ module _ (source : Packs) (p : ℕ) (before : Packs) (q : ℕ) (target after : P
       let words = s .sector .words in
       let clean : readable source p n ≡ true = rw (s .there) (s .unmarked) in
       let now-stored : after ≡ stored target q n words takes =
-          is ∙ ap (λ o. after-sector o target q n takes) (s .there) ∙ ap (λ b. cond b (after-store target q n words takes) target) (s .unmarked)
-          ∙ ap (λ r. left-by r target (stored target q n words takes)) (s .accepted) in
-      let source-words : words ≡ words-at source p n = sym (ap words-of (s .there)) in
-      (λ pack block.
-        ap (λ shelf. words-at shelf pack block) now-stored ∙ words-stored target q n words takes (s .accepted) pack block
-        ∙ cond-both (eqb pack q && eqb block n) words (words-at target pack block) (λ x. x ≡ choice pack block (eqb pack q && (ltb block (n + 1) && readable source p block)))
-          (λ here. let parts = and-parts (eqb pack q) (eqb block n) here in
+      is ∙ ap (λ o. after-sector o target q n takes) (s .there) ∙ ap (λ b. cond b (after-store target q n words takes) target) (s .unmarked)
+      ∙ ap (λ r. left-by r target (stored target q n words takes)) (s .accepted) in
+      let source-words : words ≡ words-at source p n = sym (ap words-of (s .there)) in (
+        λ pack block.
+            ap (λ shelf. words-at shelf pack block) now-stored ∙ words-stored target q n words takes (s .accepted) pack block
+            ∙ cond-both (eqb pack q && eqb block n) words (words-at target pack block) (λ x. x ≡ choice pack block (eqb pack q && (ltb block (n + 1) && readable source p block)))
+            (λ here. let parts = and-parts (eqb pack q) (eqb block n) here in
             rw (eqb-true pack q (parts .0), eqb-true block n (parts .1)) (source-words ∙ sym (ap (choice q n) (at-last q n (readable source p n) clean))))
-          (λ other. front pack block ∙ sym (ap (choice pack block) (elsewhere pack q block n (readable source p block) other))),
-      clean)
+            (λ other. front pack block ∙ sym (ap (choice pack block) (elsewhere pack q block n (readable source p block) other))),
+        clean,
+      )
 
   pub on-skipped : (m : Mark) → copy-reply source p target q n ≡ Ok (Skipped m) → Copied-front source p before q after (n + 1) × (readable source p n ≡ false) × (m ≡ mark-at source p n)
   unfolding choice
@@ -155,11 +156,13 @@ module _ (source : Packs) (p : ℕ) (before : Packs) (q : ℕ) (target after : P
       let s = was-skipped (source .sector p n) target q n m reply in
       let marked : readable source p n ≡ false = rw (s .there) (s .marked) in
       let same : after ≡ target =
-          is ∙ ap (λ o. after-sector o target q n takes) (s .there) ∙ ap (λ b. cond b (after-store target q n (s .sector .words) takes) target) (s .marked) in
-      (λ pack block.
-        ap (λ shelf. words-at shelf pack block) same ∙ front pack block
-        ∙ sym (ap (choice pack block) (not-counted (eqb pack q) block n (readable source p) marked)),
-      marked, s .is ∙ sym (ap (λ o. valueOr (mapped (λ x. x .mark) o) clean) (s .there)))
+      is ∙ ap (λ o. after-sector o target q n takes) (s .there) ∙ ap (λ b. cond b (after-store target q n (s .sector .words) takes) target) (s .marked) in (
+        λ pack block.
+            ap (λ shelf. words-at shelf pack block) same ∙ front pack block
+            ∙ sym (ap (choice pack block) (not-counted (eqb pack q) block n (readable source p) marked)),
+        marked,
+        s .is ∙ sym (ap (λ o. valueOr (mapped (λ x. x .mark) o) clean) (s .there)),
+      )
 
   pub on-refused : (x : ShelfRefusal) → copy-reply source p target q n ≡ Err x → Copied-front source p before q after n
   on-refused x reply = subst⁻¹ (λ shelf. Copied-front source p before q shelf n) (is ∙ was-refused (source .sector p n) target q n takes x reply) front
@@ -171,6 +174,7 @@ module _ (source : Packs) (p : ℕ) (before : Packs) (q : ℕ) (target after : P
       reply-kinds : (buffer : List ℕ) (r : Result (Unit {0}) ShelfRefusal) → left-by r target (stored target q n buffer takes) .kinds ≡ target .kinds
       reply-kinds buffer (Ok _) = refl
       reply-kinds buffer (Err _) = refl
+
       sector-kinds : (o : Option Sector) → after-sector o target q n takes .kinds ≡ target .kinds
       sector-kinds None = refl
       sector-kinds (Some s) = cond-both (is-clean (s .mark)) (after-store target q n (s .words) takes) target (λ shelf. shelf .kinds ≡ target .kinds) (λ _. reply-kinds (s .words) (store-reply target q n (s .words))) (λ _. refl)

@@ -132,7 +132,9 @@ pub impl fmt::Display for CopyError as CopyErrorDisplay {
         match self {
             CopyError::Declined(refusal) => write!(f, "{refusal}"),
             CopyError::KindsDiffer => f.write_str("the two packs are not of one kind"),
-            CopyError::NoMemory => f.write_str("there is no memory for the list of skipped sectors"),
+            CopyError::NoMemory => f.write_str(
+                "there is no memory for the list of skipped sectors",
+            ),
         }
     }
 }

@@ -39,12 +39,12 @@ pub impl BusMemory for OneWord as OneWordMemory {
 #[cfg(test)]
 mod tests {
     use super::*;
-    use media::board::Board;
-    use media::board::BoardMemory;
     use media::memory::MemoryRefusalDebug;
     use media::memory::MemoryRefusalPartialEq;
-    use media::stack::Stack;
-    use media::stack::StackMemory;
+    use memories::board::Board;
+    use memories::board::BoardMemory;
+    use memories::stack::Stack;
+    use memories::stack::StackMemory;
     use std::test::*;
 
     #[test]

@@ -1,10 +1,5 @@
-pub mod Boards
-pub mod CardPacks
 pub mod Crc
-pub mod Decks
-pub mod FlatPacks
 pub mod Headers
-pub mod KindRows
 pub mod Meanings
 pub mod SamePacks
 pub mod Shelves

@@ -67,10 +67,12 @@ module _ (left : Packs) (left-lawful : Lawful left) (p : ℕ) (right : Packs) (r
   by-kinds (Some j) None e f = tt
   by-kinds (Some j) (Some k) e f =
       decides-like (eqb (kind-number j) (kind-number k) && blocks-agree left p right q (blocks-of j))
-      (λ h. (e ∙ ap Some (h .0) ∙ sym f,
+      (λ h. (
+        e ∙ ap Some (h .0) ∙ sym f,
         λ b. ⊎-elim (λ below. h .1 b below)
-          (λ past. no-words left left-lawful p b j e past ∙ sym (no-words right right-lawful q b k f (rw (sym (h .0)) past)))
-          (cases-lt b (blocks-of j))))
+            (λ past. no-words left left-lawful p b j e past ∙ sym (no-words right right-lawful q b k f (rw (sym (h .0)) past)))
+            (cases-lt b (blocks-of j)),
+      ))
       (λ h. (let same : Some j ≡ Some k = sym e ∙ h .0 ∙ f in cc, λ b below. h .1 b))
       (decides-and (eqb (kind-number j) (kind-number k)) (blocks-agree left p right q (blocks-of j)) (kind-decides j k) (agree-below (blocks-of j)))
 

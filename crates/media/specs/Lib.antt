@@ -1,8 +1,5 @@
 pub mod Address
-pub mod Board
-pub mod Cards
 pub mod Figures
-pub mod Flat
 pub mod Host
 pub mod Kinds
 pub mod Laws
@@ -10,4 +7,3 @@ pub mod Marks
 pub mod Memory
 pub mod Same
 pub mod Shelf
-pub mod Stack

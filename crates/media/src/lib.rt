@@ -1,13 +1,9 @@
-// Packs, shelves of packs and bus memory: what an RL11 controller stands on.
+// What an RL11 controller stands on: the addresses of packs, the interface of a shelf of packs, and that of a bus memory.
 pub mod address;
-pub mod board;
-pub mod cards;
 pub mod figures;
-pub mod flat;
 pub mod host;
 pub mod kinds;
 pub mod marks;
 pub mod memory;
 pub mod same;
 pub mod shelf;
-pub mod stack;

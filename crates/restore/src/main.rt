@@ -8,10 +8,6 @@ use backup::copy::CopyErrorError;
 use backup::copy::LeftOut;
 use backup::copy::copy_pack;
 use backup::mend::mend_sector;
-use media::cards::CardShelf;
-use media::cards::CardShelfShelf;
-use media::flat::FlatShelf;
-use media::flat::FlatShelfShelf;
 use media::kinds::Kind;
 use media::same::same;
 use media::shelf::SECTOR_WORDS;
@@ -20,6 +16,10 @@ use media::shelf::ShelfRefusalError;
 use report::say_copied;
 use report::say_same;
 use sample::sample_cards;
+use shelves::cards::CardShelf;
+use shelves::cards::CardShelfShelf;
+use shelves::flat::FlatShelf;
+use shelves::flat::FlatShelfShelf;
 use std::error::AnyError;
 
 const KIND: Kind = Kind::Rl01;
@@ -33,7 +33,10 @@ fn restore(rt: &LibcRuntime) -> Result<(), AnyError> {
     let mut cards = sample_cards(heap)?;
     let mut words = vec![in heap; 0u16; usize::from(KIND.blocks()) * SECTOR_WORDS]?;
     let count = cards.len();
-    println!(rt, "A backup of an RL01 pack, {count} sectors on cards, is restored onto a whole pack.")?;
+    println!(
+        rt,
+        "A backup of an RL01 pack, {count} sectors on cards, is restored onto a whole pack."
+    )?;
     let mut backup = CardShelf::new([KIND.number(), 0, 0, 0, 0, 0, 0, 0], &mut cards);
     let mut pack = FlatShelf::new(KIND.number(), &mut words);
 
@@ -42,7 +45,10 @@ fn restore(rt: &LibcRuntime) -> Result<(), AnyError> {
     say_same(rt, same(&backup, 0, &pack, 0)?)?;
 
     let mended = mend_damaged(&mut backup, &left_out)?;
-    println!(rt, "Mended {mended} sectors with damaged data by a store of their own words.")?;
+    println!(
+        rt,
+        "Mended {mended} sectors with damaged data by a store of their own words."
+    )?;
 
     let left_out = copy_pack(heap, &backup, 0, &mut pack, 0)?;
     say_copied(rt, "Second", KIND, &left_out)?;

@@ -15,7 +15,10 @@ pub fn say_copied(
 ) -> Result<(), AnyError> {
     let skipped = left_out.len();
     let copied = usize::from(kind.blocks()).saturating_sub(skipped);
-    println!(rt, "{which} copy: {copied} sectors copied, {skipped} skipped.")?;
+    println!(
+        rt,
+        "{which} copy: {copied} sectors copied, {skipped} skipped."
+    )?;
     for left in left_out {
         say_skipped(rt, kind, left)?;
     }

@@ -1,6 +1,6 @@
 // A backup to restore.
-use media::cards::Card;
 use media::shelf::SECTOR_WORDS;
+use shelves::cards::Card;
 use std::alloc::AllocError;
 use std::alloc::Global;
 
@@ -18,7 +18,12 @@ pub fn sample_cards(heap: Global) -> Result<Vec<Card>, AllocError> {
 fn sample_card(i: u16) -> Card {
     let block = i.wrapping_mul(64);
     if i % 64 == 9 {
-        return Card { pack: 0, block, mark: 1, words: [0; SECTOR_WORDS] };
+        return Card {
+            pack: 0,
+            block,
+            mark: 1,
+            words: [0; SECTOR_WORDS],
+        };
     }
     let mark = if i % 40 == 7 { 2 } else { 0 };
     let mut words = [0; SECTOR_WORDS];
@@ -27,5 +32,10 @@ fn sample_card(i: u16) -> Card {
         *w = word;
         word = word.wrapping_mul(5).wrapping_add(1);
     }
-    Card { pack: 0, block, mark, words }
+    Card {
+        pack: 0,
+        block,
+        mark,
+        words,
+    }
 }

@@ -47,11 +47,11 @@ loop-block-again g c =
     let kinds = same-kinds source (c .args .from-pack) before (c .args .to-pack) target after (c .loop-block .block) (takes-in after) (inv .0) (said .after) ∙ inv .1 in
     let block = c .loop-block .block in
     elim (c .match-branch-3 .came) [
-      in-Skipped·in-Continue-push w ↦
-        (let front = on-skipped source (c .args .from-pack) before (c .args .to-pack) target after block (takes-in after) (inv .0) (said .after) (w .in-Skipped .mark) (sym (said .reply) ∙ ap Ok (w .in-Skipped .is)) in
-        let pushed : vec-items (w .push .last .self) ≡ vec-items (c .loop-block .left-out) ++ (record { block = block; mark = w .in-Skipped .mark }) ∷ [] = rw (w .in-Continue-push .was tt) at (w .push .ensures .items) in
-        (front .0, kinds, ap vec-items (w .left-out-is) ∙ pushed ∙ one-more source (c .args .from-pack) block (vec-items (c .loop-block .left-out)) (inv .2) (w .in-Skipped .mark) (front .1) (front .2)))
-    | in-rest w ↦
-        (let front = on-copied source (c .args .from-pack) before (c .args .to-pack) target after block (takes-in after) (inv .0) (said .after) (sym (said .reply) ∙ ap Ok (not-skipped (c .in-Continue-mark .field-0) (w .in-rest .not-Skipped))) in
-        (front .0, kinds, ap vec-items (w .left-out-is) ∙ none-more source (c .args .from-pack) block (vec-items (c .loop-block .left-out)) (inv .2) (front .1)))
+      | in-Skipped·in-Continue-push w ↦
+          (let front = on-skipped source (c .args .from-pack) before (c .args .to-pack) target after block (takes-in after) (inv .0) (said .after) (w .in-Skipped .mark) (sym (said .reply) ∙ ap Ok (w .in-Skipped .is)) in
+          let pushed : vec-items (w .push .last .self) ≡ vec-items (c .loop-block .left-out) ++ (record { block = block; mark = w .in-Skipped .mark }) ∷ [] = rw (w .in-Continue-push .was tt) at (w .push .ensures .items) in
+          (front .0, kinds, ap vec-items (w .left-out-is) ∙ pushed ∙ one-more source (c .args .from-pack) block (vec-items (c .loop-block .left-out)) (inv .2) (w .in-Skipped .mark) (front .1) (front .2)))
+      | in-rest w ↦
+          (let front = on-copied source (c .args .from-pack) before (c .args .to-pack) target after block (takes-in after) (inv .0) (said .after) (sym (said .reply) ∙ ap Ok (not-skipped (c .in-Continue-mark .field-0) (w .in-rest .not-Skipped))) in
+          (front .0, kinds, ap vec-items (w .left-out-is) ∙ none-more source (c .args .from-pack) block (vec-items (c .loop-block .left-out)) (inv .2) (front .1)))
     ]

@@ -1,0 +1,4 @@
+pub mod CardPacks
+pub mod Decks
+pub mod FlatPacks
+pub mod KindRows
