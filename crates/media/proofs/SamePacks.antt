@@ -77,29 +77,35 @@ module _ (left : Packs) (left-lawful : Lawful left) (p : ℕ) (right : Packs) (r
       (decides-and (eqb (kind-number j) (kind-number k)) (blocks-agree left p right q (blocks-of j)) (kind-decides j k) (agree-below (blocks-of j)))
 
   -- the reply is whether they are the same
-  pub same-exact : (r : Result Bool ShelfRefusal) → r ≡ same-reply left p right q → made r (λ answer. Decides answer (Same-packs left p right q))
-  same-exact r is = subst⁻¹ (λ (s : Result Bool ShelfRefusal). made s (λ answer. Decides answer (Same-packs left p right q))) is (by-kinds (nth (left .kinds) p) (nth (right .kinds) q) refl refl)
+  same-exact : (r : Result Bool ShelfRefusal) → r ≡ same-reply left p right q → made r (λ answer. Decides answer (Same-packs left p right q))
+  same-exact r is =
+      subst⁻¹ (λ (s : Result Bool ShelfRefusal). made s (λ answer. Decides answer (Same-packs left p right q))) is
+      (by-kinds (nth (left .kinds) p) (nth (right .kinds) q) refl refl)
 
-  -- the reply on two packs of one kind
-  module _ (k : Kind) (left-is : kind-reply left p ≡ Ok k) (right-is : kind-reply right q ≡ Ok k) where
-    nth-is : (o : Option Kind) → okOr o NoPack ≡ Ok k → o ≡ Some k
-    nth-is (Some j) e = cc
-    nth-is None e = let z : _≡_ {A = ℕ} 0 1 = cc in absurd (omega arith)
+  -- Packs whose kinds were asked for, and found to be equal by a `!=` that is false.
+  module _ (k j : Kind) (left-is : Ok k ≡ kind-reply left p) (right-is : Ok j ≡ kind-reply right q) (equal : Bool) (means : cond equal (j ≡ k) (j ≡ k → ⊥)) (not-ne : false ≡ not equal) where
+    nth-is : (o : Option Kind) (i : Kind) → Ok i ≡ okOr o NoPack → o ≡ Some i
+    nth-is (Some h) i e = cc
+    nth-is None i e = let z : _≡_ {A = ℕ} 0 1 = cc in absurd (omega arith)
 
-    pub both-there : (block : ℕ) → block < blocks-of k → (has-block (left .kinds) p block ≡ true) × (has-block (right .kinds) q block ≡ true)
-    both-there block below = (rw (nth-is (nth (left .kinds) p) left-is) (lt-ltb block (blocks-of k) below), rw (nth-is (nth (right .kinds) q) right-is) (lt-ltb block (blocks-of k) below))
+    one-kind : (b : Bool) → cond b (j ≡ k) (j ≡ k → ⊥) → false ≡ not b → j ≡ k
+    one-kind true e _ = e
+    one-kind false _ contrary = absurd (false≢true contrary)
 
-    pub replied : (answer : Bool) → blocks-agree left p right q (blocks-of k) ≡ answer → Ok answer ≡ same-reply left p right q
-    replied answer is = rw (nth-is (nth (left .kinds) p) left-is, nth-is (nth (right .kinds) q) right-is, eq-eqb (kind-number k) (kind-number k) refl) (ap Ok (sym is))
+    right-kind : nth (right .kinds) q ≡ Some k
+    right-kind = nth-is (nth (right .kinds) q) j right-is ∙ ap Some (one-kind equal means not-ne)
 
-    -- they differ at a block
+    -- the answer is whether their blocks agree
+    pub answered : (answer : Bool) → blocks-agree left p right q (blocks-of k) ≡ answer → (Ok answer ≡ same-reply left p right q) × Decides answer (Same-packs left p right q)
+    answered answer is =
+        let reply : Ok answer ≡ same-reply left p right q = rw (nth-is (nth (left .kinds) p) k left-is, right-kind, eq-eqb (kind-number k) (kind-number k) refl) (ap Ok (sym is)) in
+        (reply, same-exact (Ok answer) reply)
+
+    -- they do not where the words of a block differ
     pub differ : (block : ℕ) → block < blocks-of k → words-agree (words-at left p block) (words-at right q block) ≡ false → blocks-agree left p right q (blocks-of k) ≡ false
     differ block below differs =
         ⊎-elim
-        (λ agree. absurd (not-from-decides (words-agree (words-at left p block) (words-at right q block)) (agree-decides (words-at left p block) (words-at right q block)) differs (agree-below (blocks-of k) .0 agree block below)))
+        (λ agree.
+          absurd (not-from-decides (words-agree (words-at left p block) (words-at right q block)) (agree-decides (words-at left p block) (words-at right q block)) differs
+          (agree-below (blocks-of k) .0 agree block below)))
         (λ e. e) (cases-bool (blocks-agree left p right q (blocks-of k)))
-
--- what `!=` says where it is false
-pub not-ne : (j k : Kind) (equal : Bool) → cond equal (j ≡ k) (j ≡ k → ⊥) → false ≡ not equal → j ≡ k
-not-ne j k true e _ = e
-not-ne j k false _ contrary = absurd (false≢true contrary)

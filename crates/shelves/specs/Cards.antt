@@ -1,5 +1,6 @@
 -- What a card shelf means: sectors that stand on cards.
 use Prim.Native.Nat.{ℕ, _+_, _%_, _<_}
+use denote.Ref.{now}
 use mathlib.Core.Bool.{Bool, true, _&&_, cond}
 use mathlib.Core.List.{List, [], _∷_}
 use lib.Dec.{eqb}
@@ -13,6 +14,7 @@ use Rattle.media.specs.Kinds.{kind-of}
 use Rattle.media.specs.Marks.{mark-of, clean}
 use Rattle.media.specs.Shelf.{Packs, Sector, shelf-of, store-reply}
 use Rattle.shelves.specs.declared.cards.Card.{Card}
+use Rattle.shelves.specs.declared.cards.CardShelf.{CardShelf}
 use Rattle.shelves.specs.declared.cards.Slot.{Slot}
 use Rattle.shelves.specs.declared.cards.Slot.the-variants.{Own, Free, Full}
 use Rattle.media.specs.declared.kinds.Kind.{Kind}
@@ -56,6 +58,10 @@ card-sector deck pack block = on-card (isSome (first-card is-free deck)) (first-
 -- What a card shelf means.
 abbrev pub card-packs : List ℕ → List Card → Packs
 card-packs numbers deck = shelf-of (card-kinds numbers) (card-sector deck)
+
+-- What this card shelf means, by the cards that it was lent.
+abbrev pub card-meaning : CardShelf → Packs
+card-meaning shelf = card-packs (shelf .kinds) (now (shelf .cards))
 
 -- The first card that passes a test, changed.
 abbrev pub change-first : (Card → Bool) → (Card → Card) → List Card → List Card

@@ -1,5 +1,6 @@
 -- What a flat shelf means: one pack in a slice of words, in the order of the blocks.
 use Prim.Native.Nat.{ℕ, _+_, _*_}
+use denote.Ref.{now}
 use mathlib.Core.Bool.{true, cond}
 use mathlib.Core.List.{List, [], _∷_, _++_}
 use lib.Dec.{eqb}
@@ -13,6 +14,7 @@ use Rattle.media.specs.Marks.{clean}
 use Rattle.media.specs.Shelf.{Packs, Sector, has-block, shelf-of, store-reply}
 use Rattle.media.specs.declared.kinds.Kind.{Kind}
 use Rattle.media.specs.declared.shelf.ShelfRefusal.{ShelfRefusal}
+use Rattle.shelves.specs.declared.flat.FlatShelf.{FlatShelf}
 
 -- The one pack, where the slice has just its words.
 abbrev pub whole-pack : List ℕ → Option Kind → List Kind
@@ -30,6 +32,10 @@ flat-sector slice block = record { words = take 128 (drop (block * 128) slice); 
 -- What a flat shelf means.
 abbrev pub flat-packs : ℕ → List ℕ → Packs
 flat-packs number slice = shelf-of (flat-kinds number slice) (λ _ block. flat-sector slice block)
+
+-- What this flat shelf means, by the slice that it was lent.
+abbrev pub flat-meaning : FlatShelf → Packs
+flat-meaning shelf = flat-packs (shelf .kind) (now (shelf .words))
 
 -- Where the words of a sector that is there begin.
 abbrev pub sector-start : ℕ → List ℕ → ℕ → ℕ → Option ℕ

@@ -1,12 +1,11 @@
 // A shelf of up to eight packs whose sectors stand on cards.
-ghost use Prim.Native.Nat.{ℕ, _<_};
-ghost use mathlib.Core.Bool.{_&&_, cond};
+ghost use mathlib.Core.Bool.{cond};
 ghost use mathlib.Core.Path.{_≡_};
 ghost use denote.Ref.{now, name};
-ghost use lib.ListN.{length, set};
+ghost use lib.ListN.{length};
 ghost use Rattle.std.specs.Finite.{nth};
 ghost use Rattle.std.specs.declared.option.Option.the-variants.{Some, None};
-ghost use Rattle.shelves.specs.Cards.{card-of, is-of, is-free, or-else, card-kinds, card-packs, card-after, slot-of, Within};
+ghost use Rattle.shelves.specs.Cards.{card-of, is-of, is-free, or-else, card-kinds, card-packs, card-meaning, card-after, slot-of, Within};
 ghost use Rattle.shelves.specs.Laws.{card-lawful};
 ghost use Rattle.media.specs.Shelf.{has-block, store-reply, after-store, takes-in};
 use media::kinds::Kind;
@@ -101,7 +100,7 @@ fn earlier(free: Option<usize>, card: &Card, place: usize) -> Option<usize>
 impl<'a> CardShelf<'a> {
     /// A shelf of packs of these kinds over these cards.
     pub fn new(kinds: [u8; 8], cards: &'a mut [Card]) -> CardShelf<'a>
-        ensures meaning { λ r. ⌜ card-packs (r .kinds) (now (r .cards)) ≡ card-packs kinds (now (cards .entry)) ⌝ }
+        ensures meaning { λ r. ⌜ card-meaning r ≡ card-packs kinds (now (cards .entry)) ⌝ }
         ensures lent { λ r. ⌜ r .cards ≡ cards .entry ⌝ }
     {
         CardShelf { kinds, cards }
@@ -130,7 +129,7 @@ impl<'a> CardShelf<'a> {
 }
 
 pub impl Shelf for CardShelf<'_> as CardShelfShelf {
-    ghost packs = { λ s. card-packs (s .kinds) (now (s .cards)) };
+    ghost packs = { card-meaning };
 
     ghost lawful = { λ s. card-lawful (s .kinds) (now (s .cards)) };
 
@@ -170,8 +169,8 @@ pub impl Shelf for CardShelf<'_> as CardShelfShelf {
     }
 
     fn store(&mut self, pack: u8, block: u16, buffer: &[u16]) -> Result<(), ShelfRefusal>
-        ensures reply { λ r. ⌜ r ≡ store-reply (card-packs (now (self .entry) .kinds) (now (now (self .entry) .cards))) pack block (now (buffer .entry)) ⌝ }
-        ensures after { λ _. ⌜ card-packs (now (self .exit) .kinds) (now (now (self .exit) .cards)) ≡ after-store (card-packs (now (self .entry) .kinds) (now (now (self .entry) .cards))) pack block (now (buffer .entry)) (takes-in (card-packs (now (self .exit) .kinds) (now (now (self .exit) .cards)))) ⌝ }
+        ensures reply { λ r. ⌜ r ≡ store-reply (card-meaning (now (self .entry))) pack block (now (buffer .entry)) ⌝ }
+        ensures after { λ _. ⌜ card-meaning (now (self .exit)) ≡ after-store (card-meaning (now (self .entry))) pack block (now (buffer .entry)) (takes-in (card-meaning (now (self .exit)))) ⌝ }
         ensures lender { λ _. ⌜ name (now (self .exit) .cards) ≡ name (now (self .entry) .cards) ⌝ }
         ensures deck { λ _. ⌜ now (now (self .exit) .cards) ≡ card-after (now (self .entry) .kinds) (now (now (self .entry) .cards)) pack block (now (buffer .entry)) ⌝ }
     {

@@ -1,14 +1,13 @@
 // A shelf of one pack in a slice of words.
-ghost use Prim.Native.Nat.{_+_, _*_, _≤_};
-ghost use mathlib.Core.Bool.{cond};
+ghost use Prim.Native.Nat.{_+_, _≤_};
 ghost use mathlib.Core.Path.{_≡_};
 ghost use denote.Ref.{now, name};
 ghost use lib.ListN.{length};
 ghost use Rattle.std.specs.Slices.{found};
 ghost use Rattle.std.specs.Vec.{listOf};
 ghost use Rattle.shelves.specs.Laws.{flat-lawful};
-ghost use Rattle.shelves.specs.Flat.{flat-kinds, flat-packs, sector-start, flat-after};
-ghost use Rattle.media.specs.Shelf.{fetch-reply, fetch-buffer, store-reply, after-store, takes-in};
+ghost use Rattle.shelves.specs.Flat.{flat-kinds, flat-packs, flat-meaning, sector-start, flat-after};
+ghost use Rattle.media.specs.Shelf.{store-reply, after-store, takes-in};
 use media::kinds::Kind;
 use media::marks::Mark;
 use media::shelf::SECTOR_WORDS;
@@ -26,7 +25,7 @@ pub struct FlatShelf<'a> {
 impl<'a> FlatShelf<'a> {
     /// A shelf over these words.
     pub fn new(kind: u8, words: &'a mut [u16]) -> FlatShelf<'a>
-        ensures meaning { λ r. ⌜ flat-packs (r .kind) (now (r .words)) ≡ flat-packs kind (now (words .entry)) ⌝ }
+        ensures meaning { λ r. ⌜ flat-meaning r ≡ flat-packs kind (now (words .entry)) ⌝ }
         ensures lent { λ r. ⌜ r .words ≡ words .entry ⌝ }
     {
         FlatShelf { kind, words }
@@ -59,7 +58,7 @@ impl<'a> FlatShelf<'a> {
 }
 
 pub impl Shelf for FlatShelf<'_> as FlatShelfShelf {
-    ghost packs = { λ s. flat-packs (s .kind) (now (s .words)) };
+    ghost packs = { flat-meaning };
 
     ghost lawful = { λ s. flat-lawful (s .kind) (now (s .words)) };
 
@@ -88,8 +87,8 @@ pub impl Shelf for FlatShelf<'_> as FlatShelfShelf {
     }
 
     fn store(&mut self, pack: u8, block: u16, buffer: &[u16]) -> Result<(), ShelfRefusal>
-        ensures reply { λ r. ⌜ r ≡ store-reply (flat-packs (now (self .entry) .kind) (now (now (self .entry) .words))) pack block (now (buffer .entry)) ⌝ }
-        ensures after { λ _. ⌜ flat-packs (now (self .exit) .kind) (now (now (self .exit) .words)) ≡ after-store (flat-packs (now (self .entry) .kind) (now (now (self .entry) .words))) pack block (now (buffer .entry)) (takes-in (flat-packs (now (self .exit) .kind) (now (now (self .exit) .words)))) ⌝ }
+        ensures reply { λ r. ⌜ r ≡ store-reply (flat-meaning (now (self .entry))) pack block (now (buffer .entry)) ⌝ }
+        ensures after { λ _. ⌜ flat-meaning (now (self .exit)) ≡ after-store (flat-meaning (now (self .entry))) pack block (now (buffer .entry)) (takes-in (flat-meaning (now (self .exit)))) ⌝ }
         ensures lender { λ _. ⌜ name (now (self .exit) .words) ≡ name (now (self .entry) .words) ⌝ }
         ensures slice { λ _. ⌜ now (now (self .exit) .words) ≡ flat-after (now (self .entry) .kind) (now (now (self .entry) .words)) pack block (now (buffer .entry)) ⌝ }
     {
