@@ -106,6 +106,6 @@ module _ (left : Packs) (left-lawful : Lawful left) (p : ℕ) (right : Packs) (r
     differ block below differs =
         ⊎-elim
         (λ agree.
-          absurd (not-from-decides (words-agree (words-at left p block) (words-at right q block)) (agree-decides (words-at left p block) (words-at right q block)) differs
-          (agree-below (blocks-of k) .0 agree block below)))
+        absurd (not-from-decides (words-agree (words-at left p block) (words-at right q block)) (agree-decides (words-at left p block) (words-at right q block)) differs
+        (agree-below (blocks-of k) .0 agree block below)))
         (λ e. e) (cases-bool (blocks-agree left p right q (blocks-of k)))

@@ -1,6 +1,6 @@
 -- What calls on a card shelf do, by what the search of its cards found.
 use Prim.Native.Nat.{ℕ, _<_, _%_, _/_}
-use mathlib.Core.Path.{_≡_, refl, sym, ap, subst, _∙_}
+use mathlib.Core.Path.{_≡_, refl, sym, ap, subst⁻¹, _∙_}
 use mathlib.Core.Bool.{Bool, true, false, _&&_, cond}
 use mathlib.Core.List.{List, [], _∷_}
 use native.Mathlib.Omega.{arith}
@@ -73,6 +73,12 @@ of-claimed pack block = and-from (eqb pack pack) (eqb block block) (eq-eqb pack 
 abbrev no-card : Card
 no-card = card-of 0 0 0 []
 
+-- What a store that is accepted promises of the cards that it leaves.
+pub record Stored-as (numbers : List ℕ) (deck : List Card) (pack block : ℕ) (buffer : List ℕ) (deck′ : List Card) : Type 0 where
+  pub reply : Ok tt ≡ store-reply (card-packs numbers deck) pack block buffer
+  pub after : card-packs numbers deck′ ≡ after-store (card-packs numbers deck) pack block buffer (takes-in (card-packs numbers deck′))
+  pub cards : deck′ ≡ card-after numbers deck pack block buffer
+
 -- A sector that is there, on a shelf of these kinds over this deck.
 module _ (numbers : List ℕ) (deck : List Card) (pack block : ℕ) (buffer : List ℕ) (long : length buffer ≡ 128) (there : true ≡ has-block (card-kinds numbers) pack block) where
   at-sector : (sector : Sector) → card-sector deck pack block ≡ sector → (Ok (sector .mark) ≡ fetch-reply (card-packs numbers deck) pack block buffer) × (sector .words ≡ fetch-buffer (card-packs numbers deck) pack block buffer)
@@ -97,50 +103,47 @@ module _ (numbers : List ℕ) (deck : List Card) (pack block : ℕ) (buffer : Li
 
   -- where the sector takes, a deck on which it is rewritten and every other sector has the card that it had is what the store leaves
   module _ (takes : card-sector deck pack block .takes ≡ true) where
-    pub accepted : Ok tt ≡ store-reply (card-packs numbers deck) pack block buffer
+    accepted : Ok tt ≡ store-reply (card-packs numbers deck) pack block buffer
     accepted = sym (store-there (card-kinds numbers) (card-sector deck) pack block buffer long (sym there) ∙ ap (λ b. cond b (Ok tt) (Err NotTaking)) takes)
 
-    stored-deck : (deck′ : List Card) → card-sector deck′ pack block ≡ rewritten buffer (card-sector deck pack block) → ((p b : ℕ) → p < 8 → (eqb p pack && eqb b block) ≡ false → first-card (is-of p b) deck′ ≡ first-card (is-of p b) deck) → card-packs numbers deck′ ≡ after-store (card-packs numbers deck) pack block buffer (takes-in (card-packs numbers deck′))
-    stored-deck deck′ stores keeps =
-        stored-shelf (card-kinds numbers) (card-sector deck) (card-sector deck′) pack block buffer
+    stored-deck : (new : List Card) → card-sector new pack block ≡ rewritten buffer (card-sector deck pack block) → ((p b : ℕ) → p < 8 → (eqb p pack && eqb b block) ≡ false → first-card (is-of p b) new ≡ first-card (is-of p b) deck) → card-packs numbers new ≡ after-store (card-packs numbers deck) pack block buffer (takes-in (card-packs numbers new))
+    stored-deck new stores keeps =
+        stored-shelf (card-kinds numbers) (card-sector deck) (card-sector new) pack block buffer
         (λ p b same. let parts = and-parts (eqb p pack) (eqb b block) same in
         rw (eqb-true p pack (parts .0), eqb-true b block (parts .1)) stores)
         (λ p b here other.
         let below : p < 8 = omega (arith, in-row (card-kinds numbers) p b here, few-cards numbers) in
-        let room′ = isSome (first-card is-free deck′) in
-        ap (on-card room′) (keeps p b below other) ∙ kept-on-card room′ (isSome (first-card is-free deck)) (first-card (is-of p b) deck)
-        ∙ ap (λ o. kept (on-card room′ o .takes) (card-sector deck p b)) (sym (keeps p b below other)))
+        let room = isSome (first-card is-free new) in
+        ap (on-card room) (keeps p b below other) ∙ kept-on-card room (isSome (first-card is-free deck)) (first-card (is-of p b) deck)
+        ∙ ap (λ o. kept (on-card room o .takes) (card-sector deck p b)) (sym (keeps p b below other)))
         ∙ sym (after-there (card-kinds numbers) (card-sector deck) pack block buffer long (sym there) _ takes)
+
+    stored-as : (deck′ new : List Card) → deck′ ≡ new → put-card (isSome (first-card (is-of pack block) deck)) deck pack block buffer ≡ new → card-sector new pack block ≡ rewritten buffer (card-sector deck pack block) → ((p b : ℕ) → p < 8 → (eqb p pack && eqb b block) ≡ false → first-card (is-of p b) new ≡ first-card (is-of p b) deck) → Stored-as numbers deck pack block buffer deck′
+    stored-as deck′ new written put stores keeps =
+        record {
+          reply = accepted;
+          after = subst⁻¹ (λ d. card-packs numbers d ≡ after-store (card-packs numbers deck) pack block buffer (takes-in (card-packs numbers d))) written (stored-deck new stores keeps);
+          cards = written ∙ sym put ∙ ap (λ r. deck-left r deck pack block buffer) accepted;
+        }
 
   -- the sector's card was found: it is overwritten
   module _ (i : ℕ) (found : Own i ≡ slot-of deck pack block) where
-    own-takes : card-sector deck pack block .takes ≡ true
-    own-takes = ap (λ o. on-card (isSome (first-card is-free deck)) o .takes) (own i found .card)
-
-    pub accepted-own : Ok tt ≡ store-reply (card-packs numbers deck) pack block buffer
-    accepted-own = accepted own-takes
-
-    after-own : change-first (is-of pack block) (overwritten buffer) deck ≡ card-after numbers deck pack block buffer
-    after-own =
-        sym (ap (λ r. deck-left r deck pack block buffer) (sym accepted-own) ∙ ap (λ o. put-card (isSome o) deck pack block buffer) (own i found .card))
-
     own-card : card-of pack block (bitAnd (getD deck i no-card .mark) 1) buffer ≡ overwritten buffer (getD deck i no-card)
     own-card =
         let parts = and-parts (eqb (getD deck i no-card .pack) pack) (eqb (getD deck i no-card .block) block) (own i found .passes) in
         rw (eqb-true _ _ (parts .0), eqb-true _ _ (parts .1), and-mask (getD deck i no-card .mark) 1)
 
-    pub set-own : set deck i (card-of pack block (bitAnd (getD deck i no-card .mark) 1) buffer) ≡ card-after numbers deck pack block buffer
-    set-own = ap (set deck i) own-card ∙ sym (own i found .changed (overwritten buffer)) ∙ after-own
-
-    pub stored-own : card-packs numbers (card-after numbers deck pack block buffer) ≡ after-store (card-packs numbers deck) pack block buffer (takes-in (card-packs numbers (card-after numbers deck pack block buffer)))
-    stored-own =
-        let room′ = isSome (first-card is-free (change-first (is-of pack block) (overwritten buffer) deck)) in
-        subst (λ deck′. card-packs numbers deck′ ≡ after-store (card-packs numbers deck) pack block buffer (takes-in (card-packs numbers deck′))) after-own
-        (stored-deck own-takes (change-first (is-of pack block) (overwritten buffer) deck)
-        (ap (on-card room′) (first-changed (is-of pack block) (overwritten buffer) (λ c. refl) deck ∙ ap (mapped (overwritten buffer)) (own i found .card))
+    pub written-own : (deck′ : List Card) → deck′ ≡ set deck i (card-of pack block (bitAnd (getD deck i no-card .mark) 1) buffer) → Stored-as numbers deck pack block buffer deck′
+    written-own deck′ written =
+        let new = change-first (is-of pack block) (overwritten buffer) deck in
+        let room = isSome (first-card is-free deck) in
+        stored-as (ap (λ o. on-card room o .takes) (own i found .card)) deck′ new
+        (written ∙ ap (set deck i) own-card ∙ sym (own i found .changed (overwritten buffer)))
+        (ap (λ o. put-card (isSome o) deck pack block buffer) (own i found .card))
+        (ap (on-card (isSome (first-card is-free new))) (first-changed (is-of pack block) (overwritten buffer) (λ c. refl) deck ∙ ap (mapped (overwritten buffer)) (own i found .card))
         ∙ ap (λ m. record { words = buffer; mark = m; takes = true }) (mended-mark (getD deck i no-card .mark))
-        ∙ sym (ap (λ o. rewritten buffer (on-card (isSome (first-card is-free deck)) o)) (own i found .card)))
-        (λ p b below other. first-kept (is-of pack block) (is-of p b) (overwritten buffer) (λ c is. (not-of p b pack block c is other, not-of p b pack block c is other)) deck))
+        ∙ sym (ap (λ o. rewritten buffer (on-card room o)) (own i found .card)))
+        (λ p b below other. first-kept (is-of pack block) (is-of p b) (overwritten buffer) (λ c is. (not-of p b pack block c is other, not-of p b pack block c is other)) deck)
 
   -- it has none, and a free card was found: it is claimed
   module _ (i : ℕ) (found : Free i ≡ slot-of deck pack block) where
@@ -150,27 +153,16 @@ module _ (numbers : List ℕ) (deck : List Card) (pack block : ℕ) (buffer : Li
     free : Found is-free deck i no-card
     free = found-at is-free deck i no-card (free-slot (first-place (is-of pack block) deck) (first-place is-free deck) i found .1)
 
-    free-takes : card-sector deck pack block .takes ≡ true
-    free-takes = ap (λ o. on-card (isSome (first-card is-free deck)) o .takes) none-own ∙ ap isSome (free .card)
-
-    pub accepted-free : Ok tt ≡ store-reply (card-packs numbers deck) pack block buffer
-    accepted-free = accepted free-takes
-
-    after-free : change-first is-free (claimed pack block buffer) deck ≡ card-after numbers deck pack block buffer
-    after-free =
-        sym (ap (λ r. deck-left r deck pack block buffer) (sym accepted-free) ∙ ap (λ o. put-card (isSome o) deck pack block buffer) none-own)
-
-    pub set-free : set deck i (card-of pack block 0 buffer) ≡ card-after numbers deck pack block buffer
-    set-free = sym (free .changed (claimed pack block buffer)) ∙ after-free
-
-    pub stored-free : card-packs numbers (card-after numbers deck pack block buffer) ≡ after-store (card-packs numbers deck) pack block buffer (takes-in (card-packs numbers (card-after numbers deck pack block buffer)))
-    stored-free =
-        let room′ = isSome (first-card is-free (change-first is-free (claimed pack block buffer) deck)) in
-        subst (λ deck′. card-packs numbers deck′ ≡ after-store (card-packs numbers deck) pack block buffer (takes-in (card-packs numbers deck′))) after-free
-        (stored-deck free-takes (change-first is-free (claimed pack block buffer) deck)
-        (ap (on-card room′) (first-new is-free (is-of pack block) (claimed pack block buffer) (λ c. of-claimed pack block) deck (getD deck i no-card) none-own (free .card))
-        ∙ sym (ap (λ o. rewritten buffer (on-card (isSome (first-card is-free deck)) o)) none-own))
-        (λ p b below other. first-kept is-free (is-of p b) (claimed pack block buffer) (λ c is. (not-free p b c below is, not-claimed p b pack block other)) deck))
+    pub written-free : (deck′ : List Card) → deck′ ≡ set deck i (card-of pack block 0 buffer) → Stored-as numbers deck pack block buffer deck′
+    written-free deck′ written =
+        let new = change-first is-free (claimed pack block buffer) deck in
+        let room = isSome (first-card is-free deck) in
+        stored-as (ap (λ o. on-card room o .takes) none-own ∙ ap isSome (free .card)) deck′ new
+        (written ∙ sym (free .changed (claimed pack block buffer)))
+        (ap (λ o. put-card (isSome o) deck pack block buffer) none-own)
+        (ap (on-card (isSome (first-card is-free new))) (first-new is-free (is-of pack block) (claimed pack block buffer) (λ c. of-claimed pack block) deck (getD deck i no-card) none-own (free .card))
+        ∙ sym (ap (λ o. rewritten buffer (on-card room o)) none-own))
+        (λ p b below other. first-kept is-free (is-of p b) (claimed pack block buffer) (λ c is. (not-free p b c below is, not-claimed p b pack block other)) deck)
 
   -- it has none, and no card is free: the store is refused
   pub refused-full : Full ≡ slot-of deck pack block → Err NotTaking ≡ store-reply (card-packs numbers deck) pack block buffer
