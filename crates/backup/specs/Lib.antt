@@ -1,3 +1,3 @@
 pub mod Copy
 pub mod Mend
-pub mod Packs
+pub mod Whole

@@ -3,7 +3,7 @@ ghost use mathlib.Core.Path.{_≡_};
 ghost use Rattle.std.specs.Of.Vec.{vec-items};
 ghost use Rattle.std.specs.Results.{Cases};
 ghost use Rattle.backup.specs.Copy.{copy-reply, after-copy};
-ghost use Rattle.backup.specs.Packs.{kinds-reply, Whole, Stopped};
+ghost use Rattle.backup.specs.Whole.{kinds-reply, Whole, Stopped};
 ghost use Rattle.backup.specs.declared.copy.CopyError.the-variants.{Declined, NoMemory};
 ghost use Rattle.media.specs.Shelf.{takes-in};
 use media::kinds::Kind;
@@ -95,8 +95,7 @@ pub fn copy_pack<F: Shelf, T: Shelf>(
     to: &mut T,
     to_pack: u8,
 ) -> Result<Vec<LeftOut>, CopyError>
-    ensures kinds { λ _. ⌜ T·Shelf .packs (now (to .exit)) .kinds ≡ T·Shelf .packs (now (to .entry)) .kinds ⌝ }
-    ensures cases { λ r. ⌜ Cases r
+    ensures { λ r. ⌜ Cases r
         (λ left. Whole (F·Shelf .packs (now (from .entry))) «from_pack» (T·Shelf .packs (now (to .entry))) «to_pack» (T·Shelf .packs (now (to .exit))) (vec-items left))
         (λ why. Stopped (F·Shelf .packs (now (from .entry))) «from_pack» (T·Shelf .packs (now (to .entry))) «to_pack» (T·Shelf .packs (now (to .exit))) why) ⌝ }
 {

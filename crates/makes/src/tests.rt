@@ -1,0 +1,3 @@
+// What the two makes do on examples.
+mod one_word;
+mod stamp;
