@@ -127,8 +127,8 @@ same-packs kinds s s′ same = ap (λ (f : ℕ → ℕ → Option Sector). (reco
 pub none-copied : (source : Packs) (p : ℕ) (before : Packs) (q : ℕ) → before ≡ copied-front source p before q 0 (takes-in before)
 none-copied source p before q =
     same-packs (before .kinds) _ _ (λ pack block.
-      kept-itself (before .sector pack block)
-      ∙ sym (cond-false (eqb pack q && (ltb block 0 && clean-at source p block)) (mapped (copied-onto (words-at source p block) (takes-in before pack block)) (before .sector pack block)) (mapped (kept (takes-in before pack block)) (before .sector pack block)) (before-first (eqb pack q) (clean-at source p block) block)))
+    kept-itself (before .sector pack block)
+    ∙ sym (cond-false (eqb pack q && (ltb block 0 && clean-at source p block)) (mapped (copied-onto (words-at source p block) (takes-in before pack block)) (before .sector pack block)) (mapped (kept (takes-in before pack block)) (before .sector pack block)) (before-first (eqb pack q) (clean-at source p block) block)))
 
 -- The turn at block n of a copy.
 module _ (source : Packs) (p : ℕ) (before : Packs) (q : ℕ) (target after : Packs) (n : ℕ) (front : target ≡ copied-front source p before q n (takes-in target)) (is : after ≡ after-copy source p target q n (takes-in after)) where
@@ -160,9 +160,9 @@ module _ (source : Packs) (p : ℕ) (before : Packs) (q : ℕ) (target after : P
         let parts = and-parts (eqb pack q) (eqb block n) here in
         let was : target .sector q n ≡ mapped (kept (takes-in target q n)) (before .sector q n) = target-at q n ∙ ap (at (takes-in target) q n) (not-before q n (clean-at source p n)) in
         let takes : takes-in after q n ≡ taking-of (mapped (rewritten (sector .words)) (mapped (kept (takes-in target q n)) (before .sector q n))) =
-            ap (λ a. taking-of (a .sector q n)) now-stored
-            ∙ ap (λ b. taking-of (cond b (mapped (rewritten (sector .words)) (target .sector q n)) (mapped (kept (takes-in after q n)) (target .sector q n)))) (at-last-place q n)
-            ∙ ap (λ o. taking-of (mapped (rewritten (sector .words)) o)) was in
+        ap (λ a. taking-of (a .sector q n)) now-stored
+        ∙ ap (λ b. taking-of (cond b (mapped (rewritten (sector .words)) (target .sector q n)) (mapped (kept (takes-in after q n)) (target .sector q n)))) (at-last-place q n)
+        ∙ ap (λ o. taking-of (mapped (rewritten (sector .words)) o)) was in
         rw (eqb-true pack q (parts .0), eqb-true block n (parts .1))
         (ap (mapped (rewritten (sector .words))) was ∙ landed (sector .words) (takes-in target q n) (takes-in after q n) (before .sector q n) takes
         ∙ ap (λ ws. mapped (copied-onto ws (takes-in after q n)) (before .sector q n)) (source-words sector there)
@@ -177,17 +177,19 @@ module _ (source : Packs) (p : ℕ) (before : Packs) (q : ℕ) (target after : P
   on-copied reply =
       let s = was-copied (source .sector p n) target q n reply in
       let now-stored = after-reply (s .sector) (s .there) (s .unmarked) (Ok tt) (s .reply) in
-      let sectors : ℕ → ℕ → Option Sector = stored target q n (s .sector .words) (takes-in after) .sector in
-      (now-stored ∙ ap (λ (ks : List Kind). (record { kinds = ks; sector = sectors })) (ap (λ t. t .kinds) front)
-      ∙ same-packs (before .kinds) sectors _ (λ pack block. by-place (s .sector) (s .there) (s .unmarked) now-stored pack block (eqb pack q && eqb block n) refl),
-      clean-here (s .sector) (s .there) (s .unmarked))
+      let sectors : ℕ → ℕ → Option Sector = stored target q n (s .sector .words) (takes-in after) .sector in (
+        now-stored ∙ ap (λ (ks : List Kind). (record { kinds = ks; sector = sectors })) (ap (λ t. t .kinds) front)
+            ∙ same-packs (before .kinds) sectors _ (λ pack block. by-place (s .sector) (s .there) (s .unmarked) now-stored pack block (eqb pack q && eqb block n) refl),
+        clean-here (s .sector) (s .there) (s .unmarked),
+      )
 
   pub on-skipped : (m : Mark) → copy-reply source p target q n ≡ Ok (Skipped m) → (after ≡ target) × (clean-at source p n ≡ false) × (m ≡ mark-at source p n)
   on-skipped m reply =
-      let s = was-skipped (source .sector p n) target q n m reply in
-      (is ∙ ap (λ o. after-sector o target q n (takes-in after)) (s .there) ∙ ap (λ b. cond b (after-store target q n (s .sector .words) (takes-in after)) target) (s .marked),
-      ap (λ o. is-clean (valueOr (mapped (λ x. x .mark) o) clean)) (s .there) ∙ s .marked,
-      s .is ∙ sym (ap (λ o. valueOr (mapped (λ x. x .mark) o) clean) (s .there)))
+      let s = was-skipped (source .sector p n) target q n m reply in (
+        is ∙ ap (λ o. after-sector o target q n (takes-in after)) (s .there) ∙ ap (λ b. cond b (after-store target q n (s .sector .words) (takes-in after)) target) (s .marked),
+        ap (λ o. is-clean (valueOr (mapped (λ x. x .mark) o) clean)) (s .there) ∙ s .marked,
+        s .is ∙ sym (ap (λ o. valueOr (mapped (λ x. x .mark) o) clean) (s .there)),
+      )
 
   -- a target that is as it was still has the front
   pub still : after ≡ target → after ≡ copied-front source p before q n (takes-in after)
@@ -201,9 +203,11 @@ module _ (source : Packs) (p : ℕ) (before : Packs) (q : ℕ) (target after : P
   pub on-refused : (x : ShelfRefusal) → isSome (source .sector p n) ≡ true → copy-reply source p target q n ≡ Err x → (after ≡ target) × (clean-at source p n ≡ true) × (store-reply after q n (words-at source p n) ≡ Err x)
   on-refused x present reply =
       let s = was-refused (source .sector p n) target q n x present reply in
-      let same = after-reply (s .sector) (s .there) (s .unmarked) (Err x) (s .reply) in
-      (same, clean-here (s .sector) (s .there) (s .unmarked),
-      ap (λ a. store-reply a q n (words-at source p n)) same ∙ ap (store-reply target q n) (sym (source-words (s .sector) (s .there))) ∙ s .reply)
+      let same = after-reply (s .sector) (s .there) (s .unmarked) (Err x) (s .reply) in (
+        same,
+        clean-here (s .sector) (s .there) (s .unmarked),
+        ap (λ a. store-reply a q n (words-at source p n)) same ∙ ap (store-reply target q n) (sym (source-words (s .sector) (s .there))) ∙ s .reply,
+      )
 
 -- the list of what was left out, one block more
 module _ (source : Packs) (p n : ℕ) (left : List LeftOut) (is : left ≡ marked-blocks source p n) where

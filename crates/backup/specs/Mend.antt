@@ -14,6 +14,7 @@ abbrev pub own-reply : Option Sector → Packs → ℕ → ℕ → Result (Unit 
 own-reply None shelf pack block = Err NoSector
 own-reply (Some s) shelf pack block = store-reply shelf pack block (s .words)
 
+-- What it answers.
 abbrev pub mend-reply : Packs → ℕ → ℕ → Result (Unit {0}) ShelfRefusal
 mend-reply shelf pack block = own-reply (shelf .sector pack block) shelf pack block
 
@@ -22,5 +23,6 @@ abbrev pub after-own : Option Sector → Packs → ℕ → ℕ → (ℕ → ℕ 
 after-own None shelf pack block open-takes = shelf
 after-own (Some s) shelf pack block open-takes = after-store shelf pack block (s .words) open-takes
 
+-- The shelf afterwards.
 abbrev pub after-mend : Packs → ℕ → ℕ → (ℕ → ℕ → Bool) → Packs
 after-mend shelf pack block open-takes = after-own (shelf .sector pack block) shelf pack block open-takes

@@ -17,6 +17,8 @@ use media::shelf::Shelf;
 use media::shelf::ShelfRefusal;
 use media::shelf::ShelfRefusalDebug;
 use media::shelf::ShelfRefusalDisplay;
+use media::shelf::ShelfRefusalEq;
+use media::shelf::ShelfRefusalPartialEq;
 use std::alloc::Global;
 use std::alloc::Refused;
 use std::error::Error;
@@ -39,7 +41,7 @@ pub struct LeftOut {
 }
 
 /// Why a pack is not copied to its end.
-#[derive(Debug, Drop)]
+#[derive(Clone, Copy, PartialEq, Eq, Debug)]
 pub enum CopyError {
     /// A shelf declined a call.
     Declined(ShelfRefusal),

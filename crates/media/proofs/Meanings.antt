@@ -18,17 +18,6 @@ use Rattle.media.specs.Memory.{Words, word-limit, Only-even-below-limit, addre
 pub same-meaning : {m n : Words} → ((a : ℕ) → m a ≡ n a) → m ≡ n
 same-meaning h = fun-ext h
 
--- An address that is not refused outright is even and below the limit.
-pub allowed : (a : ℕ) → address-reply a ≡ Ok tt → (a % 2 ≡ 0) × (a < word-limit)
-allowed a e = (grind (arith, tells), grind (arith, tells))
-
--- There a read and a write answer by the word alone.
-pub read-allowed : (m : Words) (a : ℕ) → address-reply a ≡ Ok tt → read-reply m a ≡ okOr (m a) NoWord
-read-allowed m a e = grind (arith, tells)
-
-pub write-allowed : (m : Words) (a : ℕ) → address-reply a ≡ Ok tt → write-reply m a ≡ okOr (mapped (λ _. tt) (m a)) NoWord
-write-allowed m a e = grind (arith, tells)
-
 -- Where an address is refused outright, no memory has a word.
 pub absent : (m : Words) (a : ℕ) → Only-even-below-limit m → isOk (address-reply a) ≡ false → m a ≡ None
 absent m a p h = none (m a) (p a)
@@ -37,13 +26,6 @@ absent m a p h = none (m a) (p a)
     none None q = refl
     none (Some w) q = let k = q w refl in grind (arith, tells)
 
--- A write that is refused leaves the meaning, and one that is accepted changes it at its address.
+-- A write that is refused leaves the meaning.
 pub after-refused : (m : Words) (a w : ℕ) → isOk (write-reply m a) ≡ false → after-write m a w ≡ m
 after-refused m a w e = same-meaning (λ b. simp e)
-
-pub after-accepted : (m : Words) (a w : ℕ) → isOk (write-reply m a) ≡ true → after-write m a w ≡ update eqb m a (Some w)
-after-accepted m a w e = same-meaning (λ b. simp e)
-
--- A write takes no word away and adds none.
-pub presence-stays : (m : Words) (a w b : ℕ) → isSome (after-write m a w b) ≡ isSome (m b)
-presence-stays m a w b = grind (arith, tells)

@@ -17,7 +17,7 @@ use Rattle.std.specs.declared.option.Option.the-variants.{Some, None}
 use Rattle.std.specs.declared.result.Result.{Result}
 use Rattle.std.specs.declared.result.Result.the-variants.{Ok}
 use Rattle.std.proofs.shelf.Equals.{compares-decides}
-use Rattle.std.proofs.shelf.Tests.{eq-eqb, lt-ltb, le-ltb, cases-lt, cases-bool, false≢true}
+use Rattle.std.proofs.shelf.Tests.{eq-eqb, le-ltb, cases-lt, cases-bool, false≢true}
 use Rattle.std.proofs.shelf.Ways.{decides-and, decides-like, decides-below-and, not-from-decides}
 use Rattle.media.specs.Kinds.{kind-number, blocks-of}
 use Rattle.media.specs.Shelf.{Packs, Sector, Lawful, has-block, kind-reply, fetch-buffer}

@@ -17,6 +17,10 @@ use Rattle.media.specs.Kinds.{kind-of, cylinders-of, blocks-of}
 abbrev pub address-refusal-number : AddressRefusal → ℕ
 address-refusal-number NoSector = 14
 
+-- The place with these numbers.
+abbrev pub place-given : ℕ → ℕ → ℕ → Place
+place-given c h s = record { cylinder = c; head = h; sector = s }
+
 -- A cylinder has 2 heads, and a track 40 sectors, all numbered from 0.
 abbrev pub on-pack : Kind → Place → Bool
 on-pack k p = ltb (p .cylinder) (cylinders-of k) && (ltb (p .head) 2 && ltb (p .sector) 40)

@@ -6,8 +6,7 @@ use Rattle.std.specs.declared.result.Result.{Result}
 use Rattle.std.specs.declared.result.Result.the-variants.{Ok, Err}
 use Rattle.media.specs.declared.address.AddressRefusal.{AddressRefusal}
 use Rattle.media.specs.declared.address.Place.{Place}
-use Rattle.media.specs.Address.{address-refusal-number, block-reply, header-reply, place-of-block, place-of-header, check-of}
-use Rattle.media.specs.Host.{place-given}
+use Rattle.media.specs.Address.{address-refusal-number, place-given, block-reply, header-reply, place-of-block, place-of-header, check-of}
 
 -- A number, a place by cylinder, head and sector, or a refusal by its number.
 pub data Value : Type 0 where

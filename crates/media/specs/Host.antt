@@ -4,17 +4,12 @@ use lib.Dec.{ltb}
 use Rattle.std.specs.declared.result.Result.{Result}
 use Rattle.std.specs.declared.result.Result.the-variants.{Ok, Err}
 use Rattle.media.specs.declared.address.AddressRefusal.{AddressRefusal}
-use Rattle.media.specs.declared.address.Place.{Place}
-use Rattle.media.specs.Address.{address-refusal-number, or-no-sector, block-reply, header-reply, check-of}
+use Rattle.media.specs.Address.{address-refusal-number, or-no-sector, place-given, block-reply, header-reply, check-of}
 
--- A result is told as it is, and a refusal as 65,536 and its number.
+-- A result is told as it is, and a refusal as 65,536 plus its number.
 abbrev pub host-number : Result ℕ AddressRefusal → ℕ
 host-number (Ok n) = n
 host-number (Err e) = 65536 + address-refusal-number e
-
--- The place with these numbers.
-abbrev pub place-given : ℕ → ℕ → ℕ → Place
-place-given c h s = record { cylinder = c; head = h; sector = s }
 
 -- The check word of a header word, which has 16 bits.
 abbrev pub check-reply : ℕ → Result ℕ AddressRefusal

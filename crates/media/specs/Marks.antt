@@ -1,6 +1,6 @@
 -- What is wrong with a sector.
 use Prim.Native.Nat.{ℕ, _+_, _/_, _%_}
-use mathlib.Core.Bool.{Bool, true, false, not, _&&_, cond}
+use mathlib.Core.Bool.{Bool, false, not, _&&_, cond}
 use lib.Dec.{eqb}
 use Rattle.media.specs.declared.marks.Mark.{Mark}
 
@@ -16,6 +16,7 @@ mark-of n = record { unreadable = eqb (n % 2) 1; damaged = eqb (n / 2 % 2) 1 }
 abbrev pub clean : Mark
 clean = record { unreadable = false; damaged = false }
 
+-- Whether nothing is wrong.
 abbrev pub is-clean : Mark → Bool
 is-clean m = not (m .unreadable) && not (m .damaged)
 

@@ -39,11 +39,11 @@ pub record Lawful (shelf : Packs) : Type 0 where
   pub placed : (pack block : ℕ) → isSome (shelf .sector pack block) ≡ has-block (shelf .kinds) pack block
 
 -- The numbers of the refusals.
-abbrev pub refusal-number : ShelfRefusal → ℕ
-refusal-number NoPack = 9
-refusal-number BufferLength = 13
-refusal-number NoSector = 14
-refusal-number NotTaking = 15
+abbrev pub shelf-refusal-number : ShelfRefusal → ℕ
+shelf-refusal-number NoPack = 9
+shelf-refusal-number BufferLength = 13
+shelf-refusal-number NoSector = 14
+shelf-refusal-number NotTaking = 15
 
 -- The kind of a pack; 9 where there is no such pack.
 abbrev pub kind-reply : Packs → ℕ → Result Kind ShelfRefusal

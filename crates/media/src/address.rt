@@ -3,13 +3,9 @@ ghost use mathlib.Core.Path.{_≡_};
 ghost use Rattle.std.specs.Vec.{made};
 ghost use Rattle.std.specs.declared.result.Result.the-variants.{Ok};
 ghost use Rattle.media.specs.Address.{address-refusal-number, on-pack, for-kind, block-reply, header-reply, place-of-block, place-of-header, crc-step, crc-over, word-bits, check-of};
+use crate::kinds::HEADS;
 use crate::kinds::Kind;
-
-/// The heads of a pack, and so the tracks of a cylinder.
-const HEADS: u16 = 2;
-
-/// The sectors of a track.
-const SECTORS: u16 = 40;
+use crate::kinds::SECTORS;
 
 /// What is XORed into a check word for a bit that differs.
 const POLYNOMIAL: u16 = 0o120001;

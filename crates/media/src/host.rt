@@ -5,8 +5,8 @@ ghost use Prim.Native.Nat.{_<_};
 ghost use lib.Dec.{ltb};
 ghost use Rattle.std.specs.Vec.{made};
 ghost use Rattle.std.specs.declared.option.Option.the-variants.{Some, None};
-ghost use Rattle.media.specs.Address.{block-reply, header-reply};
-ghost use Rattle.media.specs.Host.{host-number, place-given, check-reply, host-block, host-header, host-check};
+ghost use Rattle.media.specs.Address.{place-given, block-reply, header-reply};
+ghost use Rattle.media.specs.Host.{host-number, check-reply, host-block, host-header, host-check};
 use crate::address::AddressRefusal;
 use crate::address::Place;
 use crate::address::check_word;
@@ -60,7 +60,7 @@ fn told(reply: Result<u16, AddressRefusal>) -> u32
     }
 }
 
-/// The kind's number and the place, unless a number is too large for any pack.
+/// The kind's number and the place, unless a number is too large for its type, and so for any pack.
 fn narrowed(kind: u32, cylinder: u32, head: u32, sector: u32) -> Option<(u8, Place)>
     ensures { λ r. ⌜ r ≡ cond (ltb kind 256 && (ltb cylinder 65536 && (ltb head 256 && ltb sector 256))) (Some (kind, place-given cylinder head sector)) None ⌝ }
 {

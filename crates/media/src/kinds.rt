@@ -2,6 +2,12 @@
 ghost use mathlib.Core.Path.{_≡_};
 ghost use Rattle.media.specs.Kinds.{kind-of, kind-number, cylinders-of, blocks-of};
 
+/// The heads of a pack, and so the tracks of a cylinder.
+pub const HEADS: u16 = 2;
+
+/// The sectors of a track.
+pub const SECTORS: u16 = 40;
+
 /// A kind of pack.
 #[derive(Clone, Copy, PartialEq, Eq, Debug)]
 pub enum Kind {
@@ -42,6 +48,6 @@ impl Kind {
     pub fn blocks(self) -> u16
         ensures { λ r. ⌜ r ≡ blocks-of self ⌝ }
     {
-        self.cylinders() * 80
+        self.cylinders() * (HEADS * SECTORS)
     }
 }

@@ -1,7 +1,7 @@
 // The interface of a shelf of packs.
 ghost use mathlib.Core.Path.{_≡_};
 ghost use lib.ListN.{length};
-ghost use Rattle.media.specs.Shelf.{Packs, Lawful, refusal-number, kind-reply, fetch-reply, fetch-buffer, store-reply, after-store, takes-in};
+ghost use Rattle.media.specs.Shelf.{Packs, Lawful, shelf-refusal-number, kind-reply, fetch-reply, fetch-buffer, store-reply, after-store, takes-in};
 use crate::kinds::Kind;
 use crate::marks::Mark;
 use std::error::Error;
@@ -26,7 +26,7 @@ pub enum ShelfRefusal {
 impl ShelfRefusal {
     /// The refusal's number.
     pub fn number(self) -> u8
-        ensures { λ r. ⌜ r ≡ refusal-number self ⌝ }
+        ensures { λ r. ⌜ r ≡ shelf-refusal-number self ⌝ }
     {
         self as u8
     }

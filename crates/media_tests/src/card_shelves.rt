@@ -6,12 +6,6 @@ use crate::support::holds;
 use crate::support::refused;
 use crate::support::stores;
 use crate::support::takes;
-use shelves::cards::Card;
-use shelves::cards::CardDebug;
-use shelves::cards::CardPartialEq;
-use shelves::cards::CardShelf;
-use shelves::cards::CardShelfShelf;
-use shelves::cards::FREE;
 use media::kinds::Kind;
 use media::kinds::KindDebug;
 use media::kinds::KindPartialEq;
@@ -19,6 +13,12 @@ use media::shelf::SECTOR_WORDS;
 use media::shelf::Shelf;
 use media::shelf::ShelfRefusalDebug;
 use media::shelf::ShelfRefusalPartialEq;
+use shelves::cards::Card;
+use shelves::cards::CardDebug;
+use shelves::cards::CardPartialEq;
+use shelves::cards::CardShelf;
+use shelves::cards::CardShelfShelf;
+use shelves::cards::FREE;
 use std::test::*;
 
 // Two packs, the second of the larger kind; what follows the 0 does not count.

@@ -7,9 +7,9 @@ use crate::support::holds;
 use crate::support::refused;
 use crate::support::stores;
 use crate::support::takes;
+use media::kinds::Kind;
 use shelves::flat::FlatShelf;
 use shelves::flat::FlatShelfShelf;
-use media::kinds::Kind;
 use std::alloc::Global;
 use std::test::*;
 

@@ -6,6 +6,8 @@ mod boards;
 #[cfg(test)]
 mod card_shelves;
 #[cfg(test)]
+mod copies;
+#[cfg(test)]
 mod flat_shelves;
 #[cfg(test)]
 mod same_packs;

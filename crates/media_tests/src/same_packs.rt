@@ -1,17 +1,17 @@
 // Whether packs of two shelves are the same.
 use crate::support::RL01_WORDS;
-use shelves::cards::Card;
-use shelves::cards::CardShelf;
-use shelves::cards::CardShelfShelf;
-use shelves::cards::FREE;
-use shelves::flat::FlatShelf;
-use shelves::flat::FlatShelfShelf;
 use media::same::same;
 use media::shelf::SECTOR_WORDS;
 use media::shelf::Shelf;
 use media::shelf::ShelfRefusal;
 use media::shelf::ShelfRefusalDebug;
 use media::shelf::ShelfRefusalPartialEq;
+use shelves::cards::Card;
+use shelves::cards::CardShelf;
+use shelves::cards::CardShelfShelf;
+use shelves::cards::FREE;
+use shelves::flat::FlatShelf;
+use shelves::flat::FlatShelfShelf;
 use std::test::*;
 
 const NO_PACK: ShelfRefusal = ShelfRefusal::NoPack;

@@ -16,10 +16,10 @@ use media::shelf::ShelfRefusalPartialEq;
 use std::test::*;
 
 /// How many words a pack of the first kind has.
-pub const RL01_WORDS: usize = 2_621_440;
+pub(super) const RL01_WORDS: usize = 2_621_440;
 
 /// A sector whose words tell their places.
-pub fn counted() -> [u16; SECTOR_WORDS] {
+pub(super) fn counted() -> [u16; SECTOR_WORDS] {
     let mut words = [0; SECTOR_WORDS];
     let mut next: u16 = 1;
     for word in words.iter_mut() {
@@ -30,7 +30,7 @@ pub fn counted() -> [u16; SECTOR_WORDS] {
 }
 
 /// Every word of a slice is this one.
-pub fn all_are(words: &[u16], word: u16) -> Result<(), Fail> {
+pub(super) fn all_are(words: &[u16], word: u16) -> Result<(), Fail> {
     for each in words {
         check_eq(*each, word)?;
     }
@@ -38,18 +38,18 @@ pub fn all_are(words: &[u16], word: u16) -> Result<(), Fail> {
 }
 
 /// The word at an address is this one.
-pub fn reads<M: BusMemory>(memory: &M, address: u32, word: u16) -> Result<(), Fail> {
+pub(super) fn reads<M: BusMemory>(memory: &M, address: u32, word: u16) -> Result<(), Fail> {
     check_eq(memory.read(address), Ok(word))
 }
 
 /// A word is written at an address, and read there again.
-pub fn writes<M: BusMemory>(memory: &mut M, address: u32, word: u16) -> Result<(), Fail> {
+pub(super) fn writes<M: BusMemory>(memory: &mut M, address: u32, word: u16) -> Result<(), Fail> {
     memory.write(address, word)?;
     reads(memory, address, word)
 }
 
 /// A read and a write at an address are refused with this number.
-pub fn no_word<M: BusMemory>(memory: &mut M, address: u32, number: u8) -> Result<(), Fail> {
+pub(super) fn no_word<M: BusMemory>(memory: &mut M, address: u32, number: u8) -> Result<(), Fail> {
     match memory.read(address) {
         Ok(_) => return Err(Fail::new("read")),
         Err(refusal) => check_eq(refusal.number(), number)?,
@@ -61,7 +61,12 @@ pub fn no_word<M: BusMemory>(memory: &mut M, address: u32, number: u8) -> Result
 }
 
 /// A shelf has so many packs, the first and the last of these kinds.
-pub fn has_packs<S: Shelf>(shelf: &S, count: u8, first: Kind, last: Kind) -> Result<(), Fail> {
+pub(super) fn has_packs<S: Shelf>(
+    shelf: &S,
+    count: u8,
+    first: Kind,
+    last: Kind,
+) -> Result<(), Fail> {
     check_eq(shelf.count(), count)?;
     check(count > 0)?;
     check_eq(shelf.kind(0), Ok(first))?;
@@ -73,14 +78,14 @@ pub fn has_packs<S: Shelf>(shelf: &S, count: u8, first: Kind, last: Kind) -> Res
 }
 
 /// A shelf has no packs.
-pub fn has_none<S: Shelf>(shelf: &mut S) -> Result<(), Fail> {
+pub(super) fn has_none<S: Shelf>(shelf: &mut S) -> Result<(), Fail> {
     check_eq(shelf.count(), 0)?;
     check_eq(shelf.kind(0), Err(ShelfRefusal::NoPack))?;
     refused(shelf, 0, 0, 128, 14)
 }
 
 /// A fetch into so many words and a store of so many are refused with this number, and the words are left.
-pub fn refused<S: Shelf>(
+pub(super) fn refused<S: Shelf>(
     shelf: &mut S,
     pack: u8,
     block: u16,
@@ -102,7 +107,7 @@ pub fn refused<S: Shelf>(
 }
 
 /// A store is refused with 15, and a fetch is not.
-pub fn does_not_take<S: Shelf>(shelf: &mut S, pack: u8, block: u16) -> Result<(), Fail> {
+pub(super) fn does_not_take<S: Shelf>(shelf: &mut S, pack: u8, block: u16) -> Result<(), Fail> {
     let mut buffer = [0; SECTOR_WORDS];
     check_eq(
         shelf.store(pack, block, &[0o123; SECTOR_WORDS]),
@@ -114,7 +119,13 @@ pub fn does_not_take<S: Shelf>(shelf: &mut S, pack: u8, block: u16) -> Result<()
 }
 
 /// Every word of a sector is this one, and its mark has this number.
-pub fn holds<S: Shelf>(shelf: &S, pack: u8, block: u16, word: u16, mark: u8) -> Result<(), Fail> {
+pub(super) fn holds<S: Shelf>(
+    shelf: &S,
+    pack: u8,
+    block: u16,
+    word: u16,
+    mark: u8,
+) -> Result<(), Fail> {
     let mut buffer = [0o456; SECTOR_WORDS];
     check_eq(
         shelf.fetch(pack, block, &mut buffer),
@@ -124,7 +135,7 @@ pub fn holds<S: Shelf>(shelf: &S, pack: u8, block: u16, word: u16, mark: u8) -> 
 }
 
 /// A sector takes a store of this word throughout, and its mark then has this number.
-pub fn stores<S: Shelf>(
+pub(super) fn stores<S: Shelf>(
     shelf: &mut S,
     pack: u8,
     block: u16,
@@ -136,7 +147,7 @@ pub fn stores<S: Shelf>(
 }
 
 /// A store of counted words is taken, and a fetch gives them back.
-pub fn takes<S: Shelf>(shelf: &mut S, pack: u8, block: u16) -> Result<(), Fail> {
+pub(super) fn takes<S: Shelf>(shelf: &mut S, pack: u8, block: u16) -> Result<(), Fail> {
     let mut buffer = [0; SECTOR_WORDS];
     shelf.store(pack, block, &counted())?;
     shelf.fetch(pack, block, &mut buffer)?;

@@ -9,7 +9,7 @@ use Rattle.media.specs.Memory.{Words, address-reply, after-write, at-places}
 abbrev pub even-border : ℕ → ℕ
 even-border n = n - n % 2
 
--- Addresses below the border go to the lower memory, the rest, less the border, to the upper one.
+-- Addresses below the border go to the lower memory, the rest, less the border, to the upper one; nothing is there at the limit or above.
 abbrev pub stack-contents : ℕ → Words → Words → Words
 stack-contents n l u = at-places (λ a. cond (ltb a n) (l a) (u (a - n)))
 

@@ -1,12 +1,12 @@
 // A board: a bus memory over a slice of words, from address 0 on.
-use media::memory::BusMemory;
-use media::memory::MemoryRefusal;
-use media::memory::check_address;
 ghost use denote.Ref.{now, name};
 ghost use mathlib.Core.Path.{_≡_};
 ghost use Rattle.memories.specs.Board.{board-contents, board-after-write};
 ghost use Rattle.media.specs.Memory.{write-reply, after-write};
 ghost use Rattle.media.specs.Laws.{at-places-placed};
+use media::memory::BusMemory;
+use media::memory::MemoryRefusal;
+use media::memory::check_address;
 
 /// A memory whose word at address a is word a / 2 of a slice; words that would lie at or above 0o760000 are never reached.
 #[derive(Drop)]

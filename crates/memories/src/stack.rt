@@ -1,12 +1,12 @@
 // A stack: a bus memory made of two others, one above the other.
-use media::memory::BusMemory;
-use media::memory::MemoryRefusal;
-use media::memory::check_address;
 ghost use mathlib.Core.Path.{_≡_};
 ghost use Prim.Native.Nat.{_%_};
 ghost use Rattle.media.specs.Memory.{write-reply, after-write};
 ghost use Rattle.media.specs.Laws.{at-places-placed};
 ghost use Rattle.memories.specs.Stack.{even-border, stack-contents, lower-after-write, upper-after-write};
+use media::memory::BusMemory;
+use media::memory::MemoryRefusal;
+use media::memory::check_address;
 
 /// A memory whose addresses below a border go to one memory, and the rest, less the border, to another.
 #[derive(Drop)]

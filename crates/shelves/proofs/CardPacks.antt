@@ -2,7 +2,7 @@
 use Prim.Native.Nat.{ℕ, _<_, _%_, _/_}
 use mathlib.Core.Path.{_≡_, refl, sym, ap, subst⁻¹, _∙_}
 use mathlib.Core.Bool.{Bool, true, false, _&&_, cond}
-use mathlib.Core.List.{List, [], _∷_}
+use mathlib.Core.List.{List, []}
 use native.Mathlib.Omega.{arith}
 use lib.Bits.{bitAnd}
 use lib.Dec.{eqb}
@@ -11,7 +11,8 @@ use Rattle.std.specs.Options.{isSome, mapped}
 use Rattle.std.specs.declared.option.Option.{Option}
 use Rattle.std.specs.declared.option.Option.the-variants.{Some, None}
 use Rattle.std.specs.declared.result.Result.the-variants.{Ok, Err}
-use Rattle.shelves.specs.Cards.{is-of, is-free, card-of, first-place, first-card, change-first, found-slot, slot-of, card-kinds, on-card, card-sector, card-packs, overwritten, claimed, put-card, deck-left, card-after}
+use Rattle.shelves.specs.Cards.{is-of, is-free, card-of, first-card, change-first, card-kinds, on-card, card-sector, card-packs, overwritten, claimed, put-card, deck-left, card-after}
+use Rattle.shelves.specs.Search.{first-place, found-slot, slot-of}
 use Rattle.media.specs.Marks.{mark-of, clean, mended}
 use Rattle.media.specs.Shelf.{Sector, has-block, fetch-reply, fetch-buffer, store-reply, after-store, takes-in, rewritten, kept}
 use Rattle.shelves.specs.declared.cards.Card.{Card}

@@ -12,7 +12,8 @@ use Rattle.std.specs.declared.option.Option.{Option}
 use Rattle.std.specs.declared.option.Option.the-variants.{Some, None}
 use Rattle.std.proofs.shelf.Lists.{take-more, take-all, length-take-le}
 use Rattle.std.proofs.shelf.Tests.{cases-bool}
-use Rattle.shelves.specs.Cards.{card-of, Within, is-of, is-free, first-card, first-place, or-else, change-first, found-slot, slot-of}
+use Rattle.shelves.specs.Cards.{card-of, is-of, is-free, first-card, change-first}
+use Rattle.shelves.specs.Search.{Within, first-place, or-else, found-slot, slot-of}
 use Rattle.shelves.specs.declared.cards.Card.{Card}
 
 none≢some : {A : Type 0} {B : Type 0} (x : A) → None ≡ Some x → B

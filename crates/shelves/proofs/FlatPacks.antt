@@ -16,7 +16,8 @@ use Rattle.std.specs.declared.result.Result.the-variants.{Ok, Err}
 use Rattle.media.specs.Kinds.{kind-of, blocks-of}
 use Rattle.media.specs.Marks.{clean}
 use Rattle.media.specs.Shelf.{Sector, has-block, fetch-reply, fetch-buffer, store-reply, after-store, takes-in}
-use Rattle.shelves.specs.Flat.{whole-pack, flat-kinds, flat-sector, flat-packs, sector-start, replaced, flat-after}
+use Rattle.shelves.specs.Flat.{whole-pack, flat-kinds, flat-sector, flat-packs, replaced, flat-after}
+use Rattle.shelves.specs.Search.{sector-start}
 use Rattle.media.proofs.Shelves.{fetch-there, filled-there, store-there, after-there, stored-shelf}
 use Rattle.media.specs.declared.kinds.Kind.{Kind}
 

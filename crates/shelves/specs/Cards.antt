@@ -1,11 +1,11 @@
 -- What a card shelf means: sectors that stand on cards.
-use Prim.Native.Nat.{ℕ, _+_, _%_, _<_}
+use Prim.Native.Nat.{ℕ, _%_}
 use denote.Ref.{now}
 use mathlib.Core.Bool.{Bool, true, _&&_, cond}
 use mathlib.Core.List.{List, [], _∷_}
 use lib.Dec.{eqb}
 use lib.ListN.{take, replicate}
-use Rattle.std.specs.Options.{isSome, mapped}
+use Rattle.std.specs.Options.{isSome}
 use Rattle.std.specs.declared.option.Option.{Option}
 use Rattle.std.specs.declared.option.Option.the-variants.{Some, None}
 use Rattle.std.specs.declared.result.Result.{Result}
@@ -15,11 +15,10 @@ use Rattle.media.specs.Marks.{mark-of, clean}
 use Rattle.media.specs.Shelf.{Packs, Sector, shelf-of, store-reply}
 use Rattle.shelves.specs.declared.cards.Card.{Card}
 use Rattle.shelves.specs.declared.cards.CardShelf.{CardShelf}
-use Rattle.shelves.specs.declared.cards.Slot.{Slot}
-use Rattle.shelves.specs.declared.cards.Slot.the-variants.{Own, Free, Full}
 use Rattle.media.specs.declared.kinds.Kind.{Kind}
 use Rattle.media.specs.declared.shelf.ShelfRefusal.{ShelfRefusal}
 
+-- A kind and those behind it; a number that is no kind ends the row.
 abbrev pub and-more : Option Kind → List Kind → List Kind
 and-more None more = []
 and-more (Some k) more = k ∷ more
@@ -85,35 +84,11 @@ abbrev pub put-card : Bool → List Card → ℕ → ℕ → List ℕ → List C
 put-card has-card deck pack block buffer =
     cond has-card (change-first (is-of pack block) (overwritten buffer) deck) (change-first is-free (claimed pack block buffer) deck)
 
--- The cards after a store; a refused one leaves them.
+-- The cards that a store leaves by its reply; a refused one leaves them as they are.
 abbrev pub deck-left : Result (Unit {0}) ShelfRefusal → List Card → ℕ → ℕ → List ℕ → List Card
 deck-left (Ok _) deck pack block buffer = put-card (isSome (first-card (is-of pack block) deck)) deck pack block buffer
 deck-left (Err _) deck pack block buffer = deck
 
+-- The cards after a store.
 abbrev pub card-after : List ℕ → List Card → ℕ → ℕ → List ℕ → List Card
 card-after numbers deck pack block buffer = deck-left (store-reply (card-packs numbers deck) pack block buffer) deck pack block buffer
-
--- The place of the first card that passes a test, counted from 0.
-abbrev pub first-place : (Card → Bool) → List Card → Option ℕ
-first-place test [] = None
-first-place test (c ∷ cs) = cond (test c) (Some 0) (mapped (λ i. i + 1) (first-place test cs))
-
--- The first of two places, if either is known.
-abbrev pub or-else : Option ℕ → Option ℕ → Option ℕ
-or-else (Some i) later = Some i
-or-else None later = later
-
--- What one search of the cards finds: the sector's card, or else the first that is free, or else that the deck is full.
-abbrev pub found-slot : Option ℕ → Option ℕ → Slot
-found-slot (Some i) free = Own i
-found-slot None (Some i) = Free i
-found-slot None None = Full
-
-abbrev pub slot-of : List Card → ℕ → ℕ → Slot
-slot-of deck pack block = found-slot (first-place (is-of pack block) deck) (first-place is-free deck)
-
--- A place that was found lies in the deck.
-abbrev pub Within : ℕ → Slot → Type 0
-Within n (Own i) = i < n
-Within n (Free i) = i < n
-Within n Full = Unit {0}

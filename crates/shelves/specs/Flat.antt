@@ -11,7 +11,7 @@ use Rattle.std.specs.declared.result.Result.{Result}
 use Rattle.std.specs.declared.result.Result.the-variants.{Ok, Err}
 use Rattle.media.specs.Kinds.{kind-of, blocks-of}
 use Rattle.media.specs.Marks.{clean}
-use Rattle.media.specs.Shelf.{Packs, Sector, has-block, shelf-of, store-reply}
+use Rattle.media.specs.Shelf.{Packs, Sector, shelf-of, store-reply}
 use Rattle.media.specs.declared.kinds.Kind.{Kind}
 use Rattle.media.specs.declared.shelf.ShelfRefusal.{ShelfRefusal}
 use Rattle.shelves.specs.declared.flat.FlatShelf.{FlatShelf}
@@ -37,14 +37,11 @@ flat-packs number slice = shelf-of (flat-kinds number slice) (λ _ block. flat-s
 abbrev pub flat-meaning : FlatShelf → Packs
 flat-meaning shelf = flat-packs (shelf .kind) (now (shelf .words))
 
--- Where the words of a sector that is there begin.
-abbrev pub sector-start : ℕ → List ℕ → ℕ → ℕ → Option ℕ
-sector-start number slice pack block = cond (has-block (flat-kinds number slice) pack block) (Some (block * 128)) None
-
--- The slice after a store: the sector's words are replaced, or nothing is where the store is refused.
+-- The slice that a store leaves by its reply: the sector's words are replaced, or nothing is where the store is refused.
 abbrev pub replaced : Result (Unit {0}) ShelfRefusal → List ℕ → ℕ → List ℕ → List ℕ
 replaced (Ok _) slice block buffer = take (block * 128) slice ++ (buffer ++ drop (block * 128 + 128) slice)
 replaced (Err _) slice block buffer = slice
 
+-- The slice after a store.
 abbrev pub flat-after : ℕ → List ℕ → ℕ → ℕ → List ℕ → List ℕ
 flat-after number slice pack block buffer = replaced (store-reply (flat-packs number slice) pack block buffer) slice block buffer

@@ -22,6 +22,7 @@ few-flat : (slice : List ℕ) (kind : Option Kind) → length (whole-pack slice 
 few-flat slice None = lit≤ tt
 few-flat slice (Some k) = at-most-one _ k
 
+-- a flat shelf
 pub flat-lawful : (number : ℕ) (slice : List ℕ) → Lawful (flat-packs number slice)
 flat-lawful number slice = shelf-lawful (flat-kinds number slice) (λ _ block. flat-sector slice block) (few-flat slice (kind-of number))
 
@@ -34,6 +35,7 @@ few-leading zero numbers = zero-le
 few-leading (suc n) [] = zero-le
 few-leading (suc n) (x ∷ numbers) = few-more (kind-of x) (leading-kinds (take n numbers)) n (few-leading n numbers)
 
+-- a card shelf
 pub few-cards : (numbers : List ℕ) → length (card-kinds numbers) ≤ 8
 few-cards numbers = few-leading 8 numbers
 

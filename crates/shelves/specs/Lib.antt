@@ -1,3 +1,4 @@
 pub mod Cards
 pub mod Flat
 pub mod Laws
+pub mod Search

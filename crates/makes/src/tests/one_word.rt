@@ -1,12 +1,12 @@
 // A memory of one word above and below a board.
 use crate::one_word::OneWord;
 use crate::one_word::OneWordMemory;
-use memories::board::Board;
-use memories::board::BoardMemory;
 use media::memory::BusMemory;
 use media::memory::MemoryRefusal;
 use media::memory::MemoryRefusalDebug;
 use media::memory::MemoryRefusalPartialEq;
+use memories::board::Board;
+use memories::board::BoardMemory;
 use memories::stack::Stack;
 use memories::stack::StackMemory;
 use std::test::*;

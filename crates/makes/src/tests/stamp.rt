@@ -1,11 +1,6 @@
 // A shelf that repeats one sector, alone and beside the shelves of the library.
 use crate::stamp::Stamp;
 use crate::stamp::StampShelf;
-use shelves::cards::Card;
-use shelves::cards::CardShelf;
-use shelves::cards::CardShelfShelf;
-use shelves::flat::FlatShelf;
-use shelves::flat::FlatShelfShelf;
 use media::kinds::Kind;
 use media::kinds::KindDebug;
 use media::kinds::KindPartialEq;
@@ -18,6 +13,11 @@ use media::shelf::Shelf;
 use media::shelf::ShelfRefusal;
 use media::shelf::ShelfRefusalDebug;
 use media::shelf::ShelfRefusalPartialEq;
+use shelves::cards::Card;
+use shelves::cards::CardShelf;
+use shelves::cards::CardShelfShelf;
+use shelves::flat::FlatShelf;
+use shelves::flat::FlatShelfShelf;
 use std::test::*;
 
 const RL01_WORDS: usize = 2_621_440;

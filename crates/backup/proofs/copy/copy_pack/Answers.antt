@@ -30,13 +30,16 @@ returns-in-Break-mark g c =
     let facts = on-refused source (c .args .from-pack) before (c .args .to-pack) target after n (c .loop-block .inv .0) (said .after) (c .in-Break-mark .field-0 .0) there (sym (said .reply)) in
     let e = err-from-errBy (c .from-residual-in-Break-mark .result) (c .from-residual-in-Break-mark .ensures .1) in
     rw (e .1)
-    (inr (n, record {
-      kind = k;
-      fits = sym (c .in-Continue-kind .ensures tt);
-      within = below;
-      target = still source (c .args .from-pack) before (c .args .to-pack) target after n (c .loop-block .inv .0) (said .after) (facts .0);
-      cause = inl (facts .1, (c .in-Break-mark .field-0 .0, facts .2, e .2));
-    }))
+    (inr (
+      n,
+      record {
+        kind = k;
+        fits = sym (c .in-Continue-kind .ensures tt);
+        within = below;
+        target = still source (c .args .from-pack) before (c .args .to-pack) target after n (c .loop-block .inv .0) (said .after) (facts .0);
+        cause = inl (facts .1, (c .in-Break-mark .field-0 .0, facts .2, e .2));
+      },
+    ))
 
 pub returns-in-Break-push : need.returns-in-Break-push
 returns-in-Break-push g c =
@@ -51,13 +54,16 @@ returns-in-Break-push g c =
     let facts = on-skipped source (c .args .from-pack) before (c .args .to-pack) target after n (c .loop-block .inv .0) (said .after) (c .in-Skipped .mark) (sym (said .reply) ∙ ap Ok (c .in-Skipped .is)) in
     let e = err-from-errBy (c .from-residual-in-Break-push .result) (c .from-residual-in-Break-push .ensures .1) in
     rw (e .1)
-    (inr (n, record {
-      kind = k;
-      fits = sym (c .in-Continue-kind .ensures tt);
-      within = below;
-      target = still source (c .args .from-pack) before (c .args .to-pack) target after n (c .loop-block .inv .0) (said .after) (facts .0);
-      cause = inr (facts .1, e .2);
-    }))
+    (inr (
+      n,
+      record {
+        kind = k;
+        fits = sym (c .in-Continue-kind .ensures tt);
+        within = below;
+        target = still source (c .args .from-pack) before (c .args .to-pack) target after n (c .loop-block .inv .0) (said .after) (facts .0);
+        cause = inr (facts .1, e .2);
+      },
+    ))
 
 pub loop-block-again : need.loop-block-again
 loop-block-again g c =
@@ -69,14 +75,15 @@ loop-block-again g c =
     let inv = c .loop-block .inv in
     let said = c .in-Continue-mark .ensures tt in
     elim (c .match-branch-3 .came) [
-      in-Skipped·in-Continue-push w ↦
-        (let facts = on-skipped source (c .args .from-pack) before (c .args .to-pack) target after n (inv .0) (said .after) (w .in-Skipped .mark) (sym (said .reply) ∙ ap Ok (w .in-Skipped .is)) in
-        let pushed : vec-items (w .push .last .self) ≡ vec-items (c .loop-block .left-out) ++ (record { block = n; mark = w .in-Skipped .mark }) ∷ [] = rw (w .in-Continue-push .was tt) at (w .push .ensures .items) in
-        (past-skipped source (c .args .from-pack) before (c .args .to-pack) target after n (inv .0) (said .after) (facts .0) (facts .1),
-        ap vec-items (w .left-out-is) ∙ pushed ∙ one-more source (c .args .from-pack) n (vec-items (c .loop-block .left-out)) (inv .1) (w .in-Skipped .mark) (facts .1) (facts .2)))
-    | in-rest w ↦
-        (let facts = on-copied source (c .args .from-pack) before (c .args .to-pack) target after n (inv .0) (said .after) (sym (said .reply) ∙ ap Ok (not-skipped (c .in-Continue-mark .field-0) (w .in-rest .not-Skipped))) in
-        (facts .0, ap vec-items (w .left-out-is) ∙ none-more source (c .args .from-pack) n (vec-items (c .loop-block .left-out)) (inv .1) (facts .1)))
+      | in-Skipped·in-Continue-push w ↦
+          (let facts = on-skipped source (c .args .from-pack) before (c .args .to-pack) target after n (inv .0) (said .after) (w .in-Skipped .mark) (sym (said .reply) ∙ ap Ok (w .in-Skipped .is)) in
+          let pushed : vec-items (w .push .last .self) ≡ vec-items (c .loop-block .left-out) ++ (record { block = n; mark = w .in-Skipped .mark }) ∷ [] = rw (w .in-Continue-push .was tt) at (w .push .ensures .items) in (
+            past-skipped source (c .args .from-pack) before (c .args .to-pack) target after n (inv .0) (said .after) (facts .0) (facts .1),
+            ap vec-items (w .left-out-is) ∙ pushed ∙ one-more source (c .args .from-pack) n (vec-items (c .loop-block .left-out)) (inv .1) (w .in-Skipped .mark) (facts .1) (facts .2),
+          ))
+      | in-rest w ↦
+          (let facts = on-copied source (c .args .from-pack) before (c .args .to-pack) target after n (inv .0) (said .after) (sym (said .reply) ∙ ap Ok (not-skipped (c .in-Continue-mark .field-0) (w .in-rest .not-Skipped))) in
+          (facts .0, ap vec-items (w .left-out-is) ∙ none-more source (c .args .from-pack) n (vec-items (c .loop-block .left-out)) (inv .1) (facts .1)))
     ]
 
 pub returns : need.returns

@@ -2,7 +2,8 @@ use mathlib.Core.Path.{_≡_, sym, ap, subst⁻¹, _∙_}
 use mathlib.Core.List.{List, []}
 use lib.ListN.{length}
 use Rattle.std.specs.declared.option.Option.the-variants.{None}
-use Rattle.shelves.specs.Cards.{card-of, is-of, is-free, first-place, found-slot, slot-of, Within}
+use Rattle.shelves.specs.Cards.{card-of, is-of, is-free}
+use Rattle.shelves.specs.Search.{first-place, found-slot, slot-of, Within}
 use Rattle.shelves.specs.declared.cards.Card.{Card}
 use Rattle.shelves.specs.declared.cards.Slot.{Slot}
 use Rattle.shelves.proofs.Decks.{first-more, first-here, searched, slot-within}

@@ -1,7 +1,8 @@
 use mathlib.Core.Path.{_≡_}
 use lib.ListN.{take}
 use Rattle.std.specs.declared.option.Option.the-variants.{None}
-use Rattle.shelves.specs.Cards.{first-place, is-of, is-free}
+use Rattle.shelves.specs.Cards.{is-of, is-free}
+use Rattle.shelves.specs.Search.{first-place}
 use Rattle.shelves.proofs.cards.locate.Given as given
 
 abbrev pub Inv-loop-i : given.InvT-loop-i

@@ -1,9 +1,8 @@
 use Prim.Native.Nat.{_<_}
-use mathlib.Core.Path.{sym, ap, _∙_}
+use mathlib.Core.Path.{sym, _∙_}
 use native.Mathlib.Omega.{arith}
 use Rattle.std.proofs.shelf.Maps.{nth-past}
 use Rattle.shelves.specs.Cards.{card-kinds}
-use Rattle.media.specs.Kinds.{kind-of}
 use Rattle.shelves.specs.Laws.{few-cards}
 use Rattle.shelves.proofs.KindRows.{card-kind}
 use Rattle.shelves.proofs.cards.CardShelf.kind_at.Needs as need

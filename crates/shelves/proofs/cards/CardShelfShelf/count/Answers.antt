@@ -1,5 +1,4 @@
 use native.Mathlib.Omega.{arith}
-use borrow.Author.Needs.{needs}
 use Rattle.shelves.proofs.KindRows.{counts-on, counts-end, counts-all}
 use Rattle.shelves.proofs.cards.CardShelfShelf.count.Needs as need
 
