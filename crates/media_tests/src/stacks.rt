@@ -89,15 +89,10 @@ fn lower_ends_at_the_border() -> Result<(), Fail> {
 
 #[test]
 fn three_parts() -> Result<(), Fail> {
-    let mut high = [3, 4];
-    let above = Stack::new(4, OneWord::new(2), Board::new(&mut high));
-    above_one_word(above)?;
-    check_eq(high, [3, 7])
-}
-
-// The memory above has 2 at 0, nothing at 2, 3 at 4 and a word at 6.
-fn above_one_word<M: BusMemory + Drop>(above: M) -> Result<(), Fail> {
     let mut low = [1, 9];
+    let mut high = [3, 4];
+    // Above the low board: 2 at 0, nothing at 2, 3 at 4 and a word at 6.
+    let above = Stack::new(4, OneWord::new(2), Board::new(&mut high));
     let mut stack = Stack::new(2, Board::new(&mut low), above);
     reads(&stack, 0, 1)?;
     reads(&stack, 2, 2)?;
@@ -106,7 +101,8 @@ fn above_one_word<M: BusMemory + Drop>(above: M) -> Result<(), Fail> {
     writes(&mut stack, 8, 7)?;
     no_word(&mut stack, 10, 4)?;
     drop(stack);
-    check_eq(low, [1, 9])
+    check_eq(low, [1, 9])?;
+    check_eq(high, [3, 7])
 }
 
 #[test]

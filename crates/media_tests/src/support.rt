@@ -2,9 +2,6 @@
 use media::kinds::Kind;
 use media::kinds::KindDebug;
 use media::kinds::KindPartialEq;
-use media::marks::Mark;
-use media::marks::MarkDebug;
-use media::marks::MarkPartialEq;
 use media::memory::BusMemory;
 use media::memory::MemoryRefusalDebug;
 use media::memory::MemoryRefusalPartialEq;
@@ -127,10 +124,8 @@ pub(super) fn holds<S: Shelf>(
     mark: u8,
 ) -> Result<(), Fail> {
     let mut buffer = [0o456; SECTOR_WORDS];
-    check_eq(
-        shelf.fetch(pack, block, &mut buffer),
-        Ok(Mark::from_number(mark)),
-    )?;
+    let found = shelf.fetch(pack, block, &mut buffer)?;
+    check_eq(found.number(), mark)?;
     check_eq(buffer, [word; SECTOR_WORDS])
 }
 
