@@ -4,7 +4,6 @@ use crate::support::reads;
 use crate::support::writes;
 use makes::one_word::OneWord;
 use makes::one_word::OneWordMemory;
-use media::memory::BusMemory;
 use memories::board::Board;
 use memories::board::BoardMemory;
 use memories::stack::Stack;
