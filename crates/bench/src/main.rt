@@ -1,4 +1,6 @@
 // Runs the script on standard input, and prints the calls and looks with their answers.
+#![tactic(auto)]
+
 use runner::transcripts::transcript;
 use std::io::Read;
 

@@ -1,4 +1,6 @@
 // Tests of the library, by subject. There is nothing here to use.
+#![tactic(auto)]
+
 #[cfg(test)]
 mod addresses;
 #[cfg(test)]

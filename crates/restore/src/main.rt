@@ -1,5 +1,7 @@
 // Restores a backup of an RL01 pack, which stands on cards, onto a whole pack in memory: what can be read is copied, then damaged sectors are mended and all is
 // copied again, and each time the two packs are compared.
+#![tactic(auto)]
+
 mod report;
 mod sample;
 

@@ -1,4 +1,6 @@
 // An RL11 disk controller with four drives, over any shelf of packs and any bus memory.
+#![tactic(auto)]
+
 mod bus;
 pub mod controller;
 pub mod core;

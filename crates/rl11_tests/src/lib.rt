@@ -1,4 +1,6 @@
 // Tests of the controller, by subject. There is nothing here to use.
+#![tactic(auto)]
+
 #[cfg(test)]
 mod makes;
 #[cfg(test)]

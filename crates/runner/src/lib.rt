@@ -1,4 +1,6 @@
 // Runs a script on a controller, and writes the answers down.
+#![tactic(auto)]
+
 mod answers;
 mod benches;
 mod looks;

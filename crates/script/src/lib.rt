@@ -1,4 +1,6 @@
 // Scripts of a test bench of the controller, read from text.
+#![tactic(auto)]
+
 mod arguments;
 mod echoes;
 pub mod faults;
