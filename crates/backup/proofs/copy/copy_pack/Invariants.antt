@@ -6,5 +6,5 @@ use Rattle.backup.proofs.copy.copy_pack.Given as goal
 
 abbrev pub invariant-loop-block : goal.invariant-loop-block
 invariant-loop-block g l =
-    (g.T.Shelf.packs l.to ≡ copied_front (g.F.Shelf.packs l.from) l.from-pack (g.T.Shelf.packs l.initial.to) l.to-pack l.block (takes_in (g.T.Shelf.packs l.to)))
-    × (vec_items l.left-out ≡ marked_blocks (g.F.Shelf.packs l.from) l.from-pack l.block)
+    (g.T.Shelf.packs l.to ≡ copied_front (g.F.Shelf.packs l.from) l.from_pack (g.T.Shelf.packs l.initial.to) l.to_pack l.block (takes_in (g.T.Shelf.packs l.to)))
+    × (vec_items l.left_out ≡ marked_blocks (g.F.Shelf.packs l.from) l.from_pack l.block)

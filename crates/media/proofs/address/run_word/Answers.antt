@@ -6,9 +6,9 @@ use Rattle.media.proofs.address.run_word.Goals as goal
 
 pub loop-turn-preserved : goal.loop-turn-preserved
 loop-turn-preserved c =
-    let more = crc_more c.loop-turn.crc c.loop-turn.word c.loop-turn.-turn c.loop-turn-test.true in
+    let more = crc_more c.loop-turn.crc c.loop-turn.word c.loop-turn._turn c.loop-turn-test.true in
     let bit = low_bit c.loop-turn.word in search rules
 
 pub returns : goal.returns
 returns c =
-    let all = crc_all c.loop-turn.crc c.loop-turn.word c.loop-turn.-turn (omega arith) in search rules
+    let all = crc_all c.loop-turn.crc c.loop-turn.word c.loop-turn._turn (omega arith) in search rules

@@ -5,4 +5,4 @@ use Rattle.media.proofs.address.run_word.Given as goal
 
 abbrev pub invariant-loop-turn : goal.invariant-loop-turn
 invariant-loop-turn l =
-    crc_over l.crc (low_bits (16 - l.-turn) l.word) ≡ crc_over l.initial.crc (word_bits l.initial.word)
+    crc_over l.crc (low_bits (16 - l._turn) l.word) ≡ crc_over l.initial.crc (word_bits l.initial.word)

@@ -6,4 +6,4 @@ use Rattle.rl11.proofs.controller.kinds_numbered.Goals as goal
 pub returns : goal.returns
 returns c =
     let four : length c.args.kinds ≡ 4 = search rules in
-    rw (c.from-number.ensures, c.from-number-2.ensures, c.from-number-3.ensures, c.from-number-4.ensures, mapped_four kind_of 0 c.args.kinds four)
+    rw (c.from_number.ensures, c.from_number-2.ensures, c.from_number-3.ensures, c.from_number-4.ensures, mapped_four kind_of 0 c.args.kinds four)

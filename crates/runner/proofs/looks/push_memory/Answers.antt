@@ -7,4 +7,4 @@ pub returns : goal.returns
 returns g c =
     let m = g.M.BusMemory.contents c.args.controller.now.memory in
     let t = string_bytes c.args.text.now in
-    then_made c.push-cells.result t _ _ _ _ _ (c.in-ok-append.ensures ∙ ap (λ x. t ++ cell_text x) c.word-at.ensures) c.push-cells.ensures (some_cells m c.args.address _ c.args.count (c.args.count - 1) (omega arith) c.saturating-add.ensures)
+    then_made c.push_cells.result t _ _ _ _ _ (c.in_ok-append.ensures ∙ ap (λ x. t ++ cell_text x) c.word_at.ensures) c.push_cells.ensures (some_cells m c.args.address _ c.args.count (c.args.count - 1) (omega arith) c.saturating_add.ensures)

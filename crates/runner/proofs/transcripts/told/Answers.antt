@@ -8,5 +8,5 @@ use Rattle.runner.proofs.transcripts.told.Goals as goal
 pub returns-in-Some : goal.returns-in-Some
 returns-in-Some c =
     let script = c.args.script.now in
-    let found : Some c.in-Some.card ≡ slice_get (vec_items script.cards) (room_for script.shelf) = c.in-Some.ensures ∙ ap (λ x. slice_get x c.room-for.result) c.as-slice.ensures.value ∙ ap (slice_get (vec_items script.cards)) c.room-for.ensures in
+    let found : Some c.in-Some.card ≡ slice_get (vec_items script.cards) (room_for script.shelf) = c.in-Some.ensures ∙ ap (λ x. slice_get x c.room_for.result) c.as_slice.ensures.value ∙ ap (slice_get (vec_items script.cards)) c.room_for.ensures in
     made_as string_bytes c.format.result _ _ c.format.ensures.ok (ap (roomy_text (bench_of script)) found)

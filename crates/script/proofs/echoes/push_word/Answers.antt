@@ -5,7 +5,7 @@ use Rattle.script.proofs.echoes.push_word.Goals as goal
 
 pub loop-byte-preserved : goal.loop-byte-preserved
 loop-byte-preserved c =
-    c.in-ok-push.ensures.bytes ∙ ap (λ x. string_bytes c.loop-byte.text ++ encode x) c.from.ensures ∙ one_byte (string_bytes c.loop-byte.text) (string_bytes c.args.text.now) c.args.word.now c.loop-byte.byte-index (omega arith) c.loop-byte.invariant
+    c.in_ok-push.ensures.bytes ∙ ap (λ x. string_bytes c.loop-byte.text ++ encode x) c.from.ensures ∙ one_byte (string_bytes c.loop-byte.text) (string_bytes c.args.text.now) c.args.word.now c.loop-byte.byte-index (omega arith) c.loop-byte.invariant
 
 pub returns : goal.returns
 returns c =

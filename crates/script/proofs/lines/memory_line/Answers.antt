@@ -13,7 +13,7 @@ returns-then-same-2 c =
     let words = led ws c.in-Some.word.now c.in-Some.ensures.word in
     let no = sym c.same.ensures ∙ c.if-same.false in
     let yes = sym c.same-2.ensures ∙ c.if-same-2.true in
-    c.setup-line-then-same-2.ensures ∙ ap as_setup (c.take-stack.ensures ∙ ap stack_setup c.in-Some.ensures.left) ∙ rw (words, no, yes) refl
+    c.setup_line-then-same-2.ensures ∙ ap as_setup (c.take_stack.ensures ∙ ap stack_setup c.in-Some.ensures.left) ∙ rw (words, no, yes) refl
 
 pub returns : goal.returns
 returns c =
@@ -21,5 +21,5 @@ returns c =
     let words = led ws c.in-Some.word.now c.in-Some.ensures.word in
     let no = sym c.same.ensures ∙ c.if-same.false in
     let nor = sym c.same-2.ensures ∙ c.if-same-2.false in
-    let address = sym c.number.ensures.value ∙ c.in-ok-address.was in
-    c.step-line.ensures ∙ ap as_step (c.take-memory.ensures ∙ ap (memory_step c.in-ok-address.address) c.in-Some.ensures.left) ∙ rw (words, no, nor, address) refl
+    let address = sym c.number.ensures.value ∙ c.in_ok-address.was in
+    c.step_line.ensures ∙ ap as_step (c.take_memory.ensures ∙ ap (memory_step c.in_ok-address.address) c.in-Some.ensures.left) ∙ rw (words, no, nor, address) refl

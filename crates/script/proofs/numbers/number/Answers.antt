@@ -7,12 +7,12 @@ use Rattle.script.proofs.Digits.{above, started, one_more, grows}
 use Rattle.script.proofs.numbers.number.Goals as goal
 use Rattle.script.proofs.numbers.number.Goals.{then-value-from, else-value-from}
 
-pub returns-in-default : goal.returns-in-default
-returns-in-default c =
+pub returns-in_default : goal.returns-in_default
+returns-in_default c =
     let w = c.args.word.now in
     let some : 0 < length w = grind (arith, nat_tests) in
     let whole = started c.args.base c.args.limit w some ∙ sym c.loop-byte.invariant in
-    let here = one_more c.args.base c.args.limit c.loop-byte.value c.loop-byte.byte-index w _ (omega arith) (sym c.digit.ensures ∙ c.in-default.is) in
+    let here = one_more c.args.base c.args.limit c.loop-byte.value c.loop-byte.byte-index w _ (omega arith) (sym c.digit.ensures ∙ c.in_default.is) in
     record { value = sym (whole ∙ here); within = tt }
 
 pub loop-byte-preserved : goal.loop-byte-preserved

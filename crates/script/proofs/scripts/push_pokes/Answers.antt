@@ -9,10 +9,10 @@ pub loop-words-preserved : goal.loop-words-preserved
 loop-words-preserved c =
     let n = c.args.number in
     let a = c.loop-words.at in
-    let x = c.in-ok-word.word in
+    let x = c.in_ok-word.word in
     let ws = words_left c.loop-words.words in
-    let left = words_left c.take-u16.new.self in
+    let left = words_left c.take_u16.new.self in
     let before = vec_items c.loop-words.pokes in
     let poke : PokeLine = record { line = n; address = a; word = x } in
-    let one = one_poked n a x ws before (sym c.take-u16.ensures.value ∙ c.in-ok-word.was) in
-    ap (λ v. pushed v (poked n c.saturating-add-at.result left)) c.in-ok-push.ensures.items ∙ ap (λ at. pushed (before ++ (poke ∷ [])) (poked n at left)) c.saturating-add-at.ensures ∙ ap (λ vs. pushed (before ++ (poke ∷ [])) (poked n (min (a + 2) 4294967295) vs)) c.take-u16.ensures.left ∙ sym one ∙ c.loop-words.invariant
+    let one = one_poked n a x ws before (sym c.take_u16.ensures.value ∙ c.in_ok-word.was) in
+    ap (λ v. pushed v (poked n c.saturating_add-at.result left)) c.in_ok-push.ensures.items ∙ ap (λ at. pushed (before ++ (poke ∷ [])) (poked n at left)) c.saturating_add-at.ensures ∙ ap (λ vs. pushed (before ++ (poke ∷ [])) (poked n (min (a + 2) 4294967295) vs)) c.take_u16.ensures.left ∙ sym one ∙ c.loop-words.invariant

@@ -4,14 +4,14 @@ use Rattle.script.specs.Words.{run_length}
 use Rattle.script.proofs.Runs.{run_ends, run_goes}
 use Rattle.script.proofs.words.run_length.Goals as goal
 
-pub returns-then-is-blank-blank : goal.returns-then-is-blank-blank
-returns-then-is-blank-blank c =
-    let ends = run_ends c.args.blank c.is_blank.result c.args.bytes.now c.loop-at.at (omega arith) c.is_blank.ensures c.if-is-blank-blank.true in
+pub returns-then-is_blank-blank : goal.returns-then-is_blank-blank
+returns-then-is_blank-blank c =
+    let ends = run_ends c.args.blank c.is_blank.result c.args.bytes.now c.loop-at.at (omega arith) c.is_blank.ensures c.if-is_blank-blank.true in
     record { value = omega (arith, c.loop-at.invariant, ends); within = omega arith }
 
 pub loop-at-preserved : goal.loop-at-preserved
 loop-at-preserved c =
-    let goes = run_goes c.args.blank c.is_blank.result c.args.bytes.now c.loop-at.at (omega arith) c.is_blank.ensures c.if-is-blank-blank.false in
+    let goes = run_goes c.args.blank c.is_blank.result c.args.bytes.now c.loop-at.at (omega arith) c.is_blank.ensures c.if-is_blank-blank.false in
     omega (arith, c.loop-at.invariant, goes)
 
 pub returns : goal.returns

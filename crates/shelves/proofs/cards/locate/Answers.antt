@@ -11,18 +11,18 @@ use Rattle.shelves.proofs.cards.locate.Goals as goal
 in_deck : (deck : List Card) (slot : Slot) (pack block : _) → slot ≡ slot_of deck pack block → Within (length deck) slot
 in_deck deck slot pack block is = subst⁻¹ (Within (length deck)) is (slot_within deck pack block)
 
-pub returns-then-is-of : goal.returns-then-is-of
-returns-then-is-of c =
+pub returns-then-is_of : goal.returns-then-is_of
+returns-then-is_of c =
     let deck = c.args.cards.now in
     let own = is_of c.args.pack c.args.block in
-    let found = first_here own deck c.loop-i.i (card_of 0 0 0 []) c.loop-i-test.true c.loop-i.invariant.0 (sym c.if-is-of.ensures) in
+    let found = first_here own deck c.loop-i.i (card_of 0 0 0 []) c.loop-i-test.true c.loop-i.invariant.0 (sym c.if-is_of.ensures) in
     record { value = sym (ap (λ o. found_slot o (first_place is_free deck)) found); within = c.loop-i-test.true }
 
 pub loop-i-preserved : goal.loop-i-preserved
 loop-i-preserved c =
     let deck = c.args.cards.now in
     let own = is_of c.args.pack c.args.block in (
-      first_more own deck c.loop-i.i (card_of 0 0 0 []) c.loop-i-test.true ∙ rw (c.loop-i.invariant.0, ← c.if-is-of.ensures),
+      first_more own deck c.loop-i.i (card_of 0 0 0 []) c.loop-i-test.true ∙ rw (c.loop-i.invariant.0, ← c.if-is_of.ensures),
       c.earlier-free.ensures ∙ rw c.loop-i.invariant.1 (sym (first_more is_free deck c.loop-i.i (card_of 0 0 0 []) c.loop-i-test.true)),
     )
 

@@ -6,12 +6,12 @@ use Rattle.memories.proofs.board.BoardBusMemory.read.Goals as goal
 
 pub returns-in-Some : goal.returns-in-Some
 returns-in-Some c =
-    let ok = c.in-ok-check-address.ensures in
+    let ok = c.in_ok-check_address.ensures in
     let found = c.in-Some.ensures in
     grind (arith, nat_tests, slice_get-get_or)
 
 pub returns-in-None : goal.returns-in-None
 returns-in-None c =
-    let ok = c.in-ok-check-address.ensures in
+    let ok = c.in_ok-check_address.ensures in
     let past = c.in-None.ensures in
     grind (arith, nat_tests, slice_get_past)

@@ -10,7 +10,7 @@ use Rattle.memories.proofs.board.BoardBusMemory.write.Goals as goal
 
 pub returns-then-index-self : goal.returns-then-index-self
 returns-then-index-self c =
-    let ok = c.in-ok-check-address.ensures in
+    let ok = c.in_ok-check_address.ensures in
     let no : is_ok (write_reply (board_contents c.args.self.now.words.now) c.args.address) ≡ false = grind (arith, nat_tests, slice_get_past) in
     record {
       reply = grind (arith, nat_tests, slice_get_past);
@@ -21,7 +21,7 @@ returns-then-index-self c =
 
 pub returns : goal.returns
 returns c =
-    let ok = sym c.in-ok-check-address.ensures in
+    let ok = sym c.in_ok-check_address.ensures in
     let yes-ok = board_accepts c.args.self.now.words.now c.args.address ok c.if-index-self.false in
     record {
       reply = sym yes-ok;

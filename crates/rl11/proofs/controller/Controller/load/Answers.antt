@@ -1,7 +1,7 @@
 use Rattle.rl11.proofs.Kept.{load_kept}
 use Rattle.rl11.proofs.controller.Controller.load.Goals as goal
 
-pub invariant-of-self : goal.invariant-of-self
-invariant-of-self g c =
+pub invariant_of-self : goal.invariant_of-self
+invariant_of-self g c =
     let core = c.args.self.now.core in
     rw c.load.ensures.after (load_kept c.args.unit c.args.pack _ core.state (core.coupled, (core.apart, (core.turning, tt))))

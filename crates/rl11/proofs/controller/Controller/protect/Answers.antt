@@ -2,7 +2,7 @@ use Rattle.rl11.proofs.Kept.{protect_kept}
 use Rattle.rl11.proofs.controller.Controller.protect.Goals as goal
 use Rattle.rl11.specs.Panel.{protect_check}
 
-pub invariant-of-self : goal.invariant-of-self
-invariant-of-self g c =
+pub invariant_of-self : goal.invariant_of-self
+invariant_of-self g c =
     let core = c.args.self.now.core in
     rw c.protect.ensures.after (protect_kept (protect_check c.args.unit core.state.drives) c.args.unit core.state (core.coupled, (core.apart, (core.turning, tt))))

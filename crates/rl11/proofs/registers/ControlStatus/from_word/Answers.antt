@@ -7,19 +7,19 @@ use Rattle.rl11.specs.declared.registers.ControlStatus.{ControlStatus}
 
 pub returns : goal.returns
 returns c =
-    let function = c.from-number.ensures ∙ ap function_numbered (and_mask (c.args.word / 2) 3) in
+    let function = c.from_number.ensures ∙ ap function_numbered (and_mask (c.args.word / 2) 3) in
     let extension = and_mask (c.args.word / 16) 2 in
     let unit = and_mask (c.args.word / 256) 2 in
     let fields : ◌≡◌ {A = ControlStatus} _ (control_fields c.args.word) =
     λ i. record {
-      drive_ready = c.has-bit.ensures i;
+      drive_ready = c.has_bit.ensures i;
       function = function i;
       extension = extension i;
-      enable = c.has-bit-2.ensures i;
-      ready = c.has-bit-3.ensures i;
+      enable = c.has_bit-2.ensures i;
+      ready = c.has_bit-3.ensures i;
       unit = unit i;
-      faults = c.from-word.ensures i;
-      drive_error = c.has-bit-4.ensures i;
+      faults = c.from_word.ensures i;
+      drive_error = c.has_bit-4.ensures i;
     }
     in
     record { fields = fields; back = back_from _ _ fields }

@@ -11,7 +11,7 @@ returns c =
     let a = c.args.address in
     let p = plan_of c.args.self.now in
     let ws = words_left c.next-2.new.self in
-    let items = vec_items c.push-pokes.new.pokes in
-    let left : ws ≡ others_of (others_of (line_words c.args.line.now)) = c.next-2.ensures.left ∙ ap others_of (c.next.ensures.left ∙ ap others_of c.of-line-words.ensures) in
-    let same : poke_lines n a (others_of (others_of (line_words c.args.line.now))) ≡ poked n a ws = ap (poke_lines n a) (sym left) ∙ some_poked n a ws (sym c.is_empty.ensures ∙ c.if-is-empty.false) in
-    subst (λ r. Reported (and_then r (λ ps. Ok (with_pokes ps p))) c.push-pokes.result (with_poked p items)) (sym same) (plan_poked (poked n a ws) p c.push-pokes.result items c.push-pokes.ensures)
+    let items = vec_items c.push_pokes.new.pokes in
+    let left : ws ≡ others_of (others_of (line_words c.args.line.now)) = c.next-2.ensures.left ∙ ap others_of (c.next.ensures.left ∙ ap others_of c.of_line-words.ensures) in
+    let same : poke_lines n a (others_of (others_of (line_words c.args.line.now))) ≡ poked n a ws = ap (poke_lines n a) (sym left) ∙ some_poked n a ws (sym c.is_empty.ensures ∙ c.if-is_empty.false) in
+    subst (λ r. Reported (and_then r (λ ps. Ok (with_pokes ps p))) c.push_pokes.result (with_poked p items)) (sym same) (plan_poked (poked n a ws) p c.push_pokes.result items c.push_pokes.ensures)

@@ -12,7 +12,7 @@ pub returns-then-pack-count : goal.returns-then-pack-count
 returns-then-pack-count c =
     let numbers = c.args.self.now.kinds in
     let below : c.args.pack < 8 = omega (arith, few_cards numbers) in
-    c.from-number.ensures ∙ rw c.from.ensures (sym (card_kind numbers c.args.pack below (omega arith)))
+    c.from_number.ensures ∙ rw c.from.ensures (sym (card_kind numbers c.args.pack below (omega arith)))
 
 pub returns-else-pack-count : goal.returns-else-pack-count
 returns-else-pack-count c = sym (slice_get_past (card_kinds c.args.self.now.kinds) c.args.pack (omega arith))

@@ -14,10 +14,10 @@ returns c =
     let pack = c.args.pack in
     let block = c.args.block in
     let buffer = c.args.buffer.now in
-    let start = c.in-ok-to.to in
-    let long = c.if-buffer-ne-SECTOR-WORDS.false in
-    let found = sym (c.ok-or.ensures.ok-part ∙ ap result_ok c.in-ok-to.was) ∙ c.start.ensures.value in
-    let copied = ap (put_mid start ((start + 128) - start) slice) c.copy-from-slice.ensures.after ∙ overwritten number slice pack block buffer start long found in
+    let start = c.in_ok-to.to in
+    let long = c.if-buffer-ne-SECTOR_WORDS.false in
+    let found = sym (c.ok_or.ensures.ok-part ∙ ap result_ok c.in_ok-to.was) ∙ c.start.ensures.value in
+    let copied = ap (put_mid start ((start + 128) - start) slice) c.copy_from_slice.ensures.after ∙ overwritten number slice pack block buffer start long found in
     record {
       reply = accepted number slice pack block buffer start long found;
       after = subst⁻¹ (λ slice'. flat_packs number slice' ≡ after_store (flat_packs number slice) pack block buffer (takes_in (flat_packs number slice'))) copied (stored_flat number slice pack block buffer start long found);
