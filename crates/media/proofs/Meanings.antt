@@ -1,11 +1,8 @@
 -- Laws of the meanings of memories, for every make of one.
-use Rattle.std.proofs.Common.{◌≡◌, ℕ, ◌%◌, ◌<◌, true, false, eqb, is_some, is_ok, Some, None, Ok, Option, refl, arith}
+use Rattle.std.proofs.Common.{◌≡◌, ℕ, ◌%◌, ◌<◌, false, is_ok, Some, None, Option, refl, arith}
 use mathlib.Core.Path.{fun_ext}
-use Rattle.std.specs.Map.{update}
-use Rattle.std.specs.Option.{ok_or, option_map}
 use Rattle.std.proofs.lemmas.Bool.Decides.{nat_tests}
-use Rattle.media.specs.declared.memory.MemoryRefusal.TheVariants.{NoWord}
-use Rattle.media.specs.Memory.{Words, word_limit, OnlyEvenBelowLimit, address_reply, read_reply, write_reply, after_write}
+use Rattle.media.specs.Memory.{Words, word_limit, OnlyEvenBelowLimit, address_reply, write_reply, after_write}
 
 -- Two meanings with the same word at each address are one.
 pub same_meaning : {m n : Words} → ((a : ℕ) → m a ≡ n a) → m ≡ n

@@ -1,5 +1,5 @@
 -- The comparison of two packs, sector by sector.
-use Rattle.std.proofs.Common.{◌≡◌, ℕ, ◌<◌, ◌≤◌, Bool, true, false, cond, not, ◌&&◌, eqb, List, [], length, is_some, IfOk, Some, None, Ok, Decides, Option, Result, unwrap_or, sym, refl, ap, ◌∙◌, ⊎_elim, arith, rules}
+use Rattle.std.proofs.Common.{◌≡◌, ℕ, ◌<◌, ◌≤◌, Bool, true, false, ◌&&◌, eqb, List, [], length, is_some, IfOk, Some, None, Ok, Decides, Option, Result, unwrap_or, sym, refl, ap, ◌∙◌, ⊎_elim, arith, rules}
 use mathlib.Core.Path.{subst⁻¹}
 use Rattle.std.specs.List.{slice_get}
 use Rattle.std.specs.Option.{option_map, ok_or}
@@ -69,18 +69,14 @@ module _ (left : Packs) (left-lawful : Lawful left) (p : ℕ) (right : Packs) (r
       subst⁻¹ (λ (s : Result Bool ShelfRefusal). IfOk s (λ answer. Decides answer (SamePacks left p right q))) is
       (by_kinds (slice_get left.kinds p) (slice_get right.kinds q) refl refl)
 
-  -- Packs whose kinds were asked for, and found to be equal by a `!=` that is false.
-  module _ (k j : Kind) (left_is : Ok k ≡ kind_reply left p) (right_is : Ok j ≡ kind_reply right q) (equal : Bool) (means : cond equal (j ≡ k) (j ≡ k → ⊥)) (not-ne : false ≡ not equal) where
+  -- Packs whose kinds were asked for, and found to be equal.
+  module _ (k j : Kind) (left_is : Ok k ≡ kind_reply left p) (right_is : Ok j ≡ kind_reply right q) (equal : j ≡ k) where
     nth_is : (o : Option Kind) (i : Kind) → Ok i ≡ ok_or o NoPack → o ≡ Some i
     nth_is (Some h) i e = cc
     nth_is None i e = let z : ◌≡◌ {A = ℕ} 0 1 = cc in absurd (omega arith)
 
-    one_kind : (b : Bool) → cond b (j ≡ k) (j ≡ k → ⊥) → false ≡ not b → j ≡ k
-    one_kind true e _ = e
-    one_kind false _ contrary = absurd (false≢true contrary)
-
     right_kind : slice_get right.kinds q ≡ Some k
-    right_kind = nth_is (slice_get right.kinds q) j right_is ∙ ap Some (one_kind equal means not-ne)
+    right_kind = nth_is (slice_get right.kinds q) j right_is ∙ ap Some equal
 
     -- the answer is whether their blocks agree
     pub answered : (answer : Bool) → blocks_agree left p right q (blocks_of k) ≡ answer → (Ok answer ≡ same_reply left p right q) × Decides answer (SamePacks left p right q)

@@ -1,6 +1,8 @@
-use Rattle.std.proofs.Common.{◌≡◌, ◌<◌, true, false, subst, add-one, arith}
+use Rattle.std.proofs.Common.{◌≡◌, ◌<◌, true, false, sym, subst, add-one, arith, rules}
+use denote.Enum.Bare.{differs_false}
 use Rattle.std.proofs.lemmas.Bool.{and_from}
 use Rattle.media.specs.Kinds.{blocks_of}
+use Rattle.media.specs.contracts.kinds.Kind.{the_type}
 use Rattle.media.specs.Same.{words_at, words_agree, blocks_agree}
 use Rattle.media.proofs.SamePacks.{answered, differ}
 use Rattle.media.proofs.same.same.Goals as goal
@@ -16,11 +18,11 @@ returns-then-not-branch g c =
     let k = c.in_ok-kind.kind in
     let j = c.in_ok-kind-2.field-0 in
     let block = c.loop-block.block in
-    let equal = c.if-ne.ensures in
+    let equal = differs_false the_type (search rules) c.in_ok-kind-2.field-0 k (sym c.if-ne.ensures) in
     let below : block < blocks_of k = omega arith in
     let apart : words_agree (words_at left p block) (words_at right q block) ≡ false = cc (c.in_ok-same_sector.ensures, c.if-not-branch.true) in
-    let disagree = differ left left-lawful p right right-lawful q k j c.in_ok-kind.ensures c.in_ok-kind-2.ensures equal.0 equal.1 equal.2 block below apart in
-    let facts = answered left left-lawful p right right-lawful q k j c.in_ok-kind.ensures c.in_ok-kind-2.ensures equal.0 equal.1 equal.2 false disagree in
+    let disagree = differ left left-lawful p right right-lawful q k j c.in_ok-kind.ensures c.in_ok-kind-2.ensures equal block below apart in
+    let facts = answered left left-lawful p right right-lawful q k j c.in_ok-kind.ensures c.in_ok-kind-2.ensures equal false disagree in
     record { reply = facts.0; exact = facts.1 }
 
 pub loop-block-preserved : goal.loop-block-preserved
@@ -40,8 +42,8 @@ returns g c =
     let p = c.args.left_pack in
     let q = c.args.right_pack in
     let k = c.in_ok-kind.kind in
-    let equal = c.if-ne.ensures in
+    let equal = differs_false the_type (search rules) c.in_ok-kind-2.field-0 k (sym c.if-ne.ensures) in
     let done : c.loop-block.block ≡ blocks_of k = omega arith in
     let agree = subst (λ n. blocks_agree left p right q n ≡ true) done c.loop-block.invariant in
-    let facts = answered left (g.L.Shelf.lawful c.args.left.now) p right (g.R.Shelf.lawful c.args.right.now) q k c.in_ok-kind-2.field-0 c.in_ok-kind.ensures c.in_ok-kind-2.ensures equal.0 equal.1 equal.2 true agree in
+    let facts = answered left (g.L.Shelf.lawful c.args.left.now) p right (g.R.Shelf.lawful c.args.right.now) q k c.in_ok-kind-2.field-0 c.in_ok-kind.ensures c.in_ok-kind-2.ensures equal true agree in
     record { reply = facts.0; exact = facts.1 }
