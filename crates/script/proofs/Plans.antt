@@ -11,7 +11,7 @@ use Rattle.script.specs.declared.faults.Fault.TheVariants.{LateSetup}
 use Rattle.script.specs.declared.lines.Line.TheVariants as line
 use Rattle.script.specs.declared.numbers.Base.TheVariants.{Octal}
 use Rattle.script.specs.declared.scripts.LineError.{LineError}
-use Rattle.script.specs.declared.scripts.LineError.TheVariants as line-error
+use Rattle.script.specs.declared.scripts.LineError.TheVariants as line_error
 use Rattle.script.specs.declared.scripts.PokeLine.{PokeLine}
 use Rattle.script.specs.declared.scripts.StepLine.{StepLine}
 use Rattle.script.specs.declared.setup.Setup.{Setup}
@@ -68,8 +68,8 @@ poked_err (Err x) p f e = cc
 
 pub plan_poked : (r : Result (List PokeLine) Fault) (p : Plan) (x : Result (Unit {0}) LineError) (after : List PokeLine) → Reported (pushed p.pokes r) x after → Reported (and_then r (λ ps. Ok (with_pokes ps p))) x (with_poked p after)
 plan_poked r p (Ok _) after e = poked_ok r p after e
-plan_poked r p (Err (line-error.Fault f)) after e = poked_err r p f e
-plan_poked r p (Err line-error.NoMemory) after e = tt
+plan_poked r p (Err (line_error.Fault f)) after e = poked_err r p f e
+plan_poked r p (Err line_error.NoMemory) after e = tt
 
 -- a script that has steps
 pub begun_by : (ss : List StepLine) (n : ℕ) → n ≡ length ss → is_begun (map told_by ss) ≡ not (eqb n 0)

@@ -11,7 +11,7 @@ fault_text TooLarge = codes "a number is too large"
 fault_text NotANumber = codes "a word is not a number"
 fault_text MissingWord = codes "a word is missing"
 fault_text ExtraWord = codes "there is a word too many"
-fault_text LateSetup = codes "a set_up line stands after the first call or look"
+fault_text LateSetup = codes "a set-up line stands after the first call or look"
 fault_text SetupTwice = codes "this was set up already"
 
 -- A fault with the number of its line.

@@ -17,11 +17,11 @@ use Rattle.script.specs.declared.numbers.Base.TheVariants.{Octal}
 use Rattle.script.specs.declared.scripts.CardLine.{CardLine}
 use Rattle.script.specs.declared.scripts.Draft.{Draft}
 use Rattle.script.specs.declared.scripts.LineError.{LineError}
-use Rattle.script.specs.declared.scripts.LineError.TheVariants as line-error
+use Rattle.script.specs.declared.scripts.LineError.TheVariants as line_error
 use Rattle.script.specs.declared.scripts.PokeLine.{PokeLine}
 use Rattle.script.specs.declared.scripts.Script.{Script}
 use Rattle.script.specs.declared.scripts.ScriptError.{ScriptError}
-use Rattle.script.specs.declared.scripts.ScriptError.TheVariants as script-error
+use Rattle.script.specs.declared.scripts.ScriptError.TheVariants as script_error
 use Rattle.script.specs.declared.scripts.StepLine.{StepLine}
 use Rattle.script.specs.declared.setup.Card.{Card}
 use Rattle.script.specs.declared.setup.MemorySetup.{MemorySetup}
@@ -159,11 +159,11 @@ script_of text = finished (read_from 0 empty_plan (lines_of text))
 -- A part of a script is added as wanted, or its fault is told, or there is no memory.
 abbrev pub Reported : {X : Type 0} → Result X Fault → Result (Unit {0}) LineError → X → Type 0
 Reported want (Ok _) x = want ≡ Ok x
-Reported want (Err (line-error.Fault f)) x = want ≡ Err f
-Reported want (Err line-error.NoMemory) x = Unit {0}
+Reported want (Err (line_error.Fault f)) x = want ≡ Err f
+Reported want (Err line_error.NoMemory) x = Unit {0}
 
 -- A script is read as wanted, or its first fault is told, or there is no memory.
 abbrev pub ReadSo : Result Bench LineFault → Result Script ScriptError → Type 0
 ReadSo want (Ok s) = want ≡ Ok (bench_of s)
-ReadSo want (Err (script-error.Line f)) = want ≡ Err f
-ReadSo want (Err script-error.NoMemory) = Unit {0}
+ReadSo want (Err (script_error.Line f)) = want ≡ Err f
+ReadSo want (Err script_error.NoMemory) = Unit {0}

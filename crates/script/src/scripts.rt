@@ -3,7 +3,7 @@ ghost use Rattle.std.specs.Prelude.{◌≡◌, ◌++◌, Ok};
 ghost use Rattle.script.specs.Arguments.{and_then};
 ghost use Rattle.script.specs.Scripts.{plan_of, empty_plan, bench_of, settled, with_drives, with_shelf, with_memory, with_card, with_pokes, with_step, told_of, poked, poke_lines, set_up, line_added, script_of, Reported, ReadSo};
 ghost use Rattle.script.specs.Words.{words_left, line_words, others_of};
-ghost use Rattle.script.specs.declared.scripts.LineError.TheVariants as line-error;
+ghost use Rattle.script.specs.declared.scripts.LineError.TheVariants as line_error;
 
 use crate::echoes::echo;
 use crate::faults::{Fault, LineFault};
@@ -96,7 +96,7 @@ enum LineError {
 }
 
 impl From<Fault> for LineError {
-    ghost from_gives = { λ fault r. r ≡ line-error.Fault fault };
+    ghost from_gives = { λ fault r. r ≡ line_error.Fault fault };
 
     fn from(fault: Fault) -> LineError {
         LineError::Fault(fault)
@@ -104,7 +104,7 @@ impl From<Fault> for LineError {
 }
 
 impl From<AllocError> for LineError {
-    ghost from_gives = { λ _ r. r ≡ line-error.NoMemory };
+    ghost from_gives = { λ _ r. r ≡ line_error.NoMemory };
 
     fn from(_: AllocError) -> LineError {
         LineError::NoMemory
@@ -112,7 +112,7 @@ impl From<AllocError> for LineError {
 }
 
 impl<T: Drop> From<AllocFailed<T>> for LineError {
-    ghost from_gives = { λ _ r. r ≡ line-error.NoMemory };
+    ghost from_gives = { λ _ r. r ≡ line_error.NoMemory };
 
     fn from(refused: AllocFailed<T>) -> LineError {
         drop(refused);

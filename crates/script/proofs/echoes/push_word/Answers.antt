@@ -1,4 +1,4 @@
-use Rattle.std.proofs.Common.{◌≡◌, ◌≤◌, ◌++◌, length, take, string_bytes, sym, ap, ◌∙◌, subst, arith, take_all}
+use Rattle.std.proofs.Common.{◌≤◌, ◌++◌, length, string_bytes, ap, ◌∙◌, arith, take_all}
 use lib.Utf8.{encode, encodes}
 use Rattle.script.proofs.Spaces.{one_byte}
 use Rattle.script.proofs.echoes.push_word.Goals as goal

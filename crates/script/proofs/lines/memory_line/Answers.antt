@@ -1,9 +1,8 @@
-use Rattle.std.proofs.Common.{◌≡◌, true, false, codes, sym, refl, ap, ◌∙◌}
-use Rattle.std.specs.Str.{bytes_eq}
-use Rattle.script.specs.Lines.{as_setup, as_step, memory_line}
+use Rattle.std.proofs.Common.{sym, refl, ap, ◌∙◌}
+use Rattle.script.specs.Lines.{as_setup, as_step}
 use Rattle.script.specs.Setup.{stack_setup}
 use Rattle.script.specs.Steps.{memory_step}
-use Rattle.script.specs.Words.{words_left, others_of}
+use Rattle.script.specs.Words.{words_left}
 use Rattle.script.proofs.Runs.{led}
 use Rattle.script.proofs.lines.memory_line.Goals as goal
 

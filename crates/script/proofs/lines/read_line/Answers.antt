@@ -1,5 +1,4 @@
-use Rattle.std.proofs.Common.{◌≡◌, sym, refl, ap, ◌∙◌}
-use Rattle.script.specs.Keywords.{keyword_of}
+use Rattle.std.proofs.Common.{sym, ap, ◌∙◌}
 use Rattle.script.specs.Lines.{keyword_line, said_by, line_of}
 use Rattle.script.specs.Words.{words_left, others_of}
 use Rattle.script.proofs.Runs.{led, none_first}

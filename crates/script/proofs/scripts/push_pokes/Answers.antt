@@ -1,6 +1,6 @@
-use Rattle.std.proofs.Common.{◌≡◌, ◌+◌, min, [], ◌∷◌, ◌++◌, vec_items, sym, ap, ◌∙◌}
+use Rattle.std.proofs.Common.{◌+◌, min, [], ◌∷◌, ◌++◌, vec_items, sym, ap, ◌∙◌}
 use Rattle.script.specs.Scripts.{poked}
-use Rattle.script.specs.Words.{words_left, others_of}
+use Rattle.script.specs.Words.{words_left}
 use Rattle.script.specs.declared.scripts.PokeLine.{PokeLine}
 use Rattle.script.proofs.Plans.{pushed, one_poked}
 use Rattle.script.proofs.scripts.push_pokes.Goals as goal

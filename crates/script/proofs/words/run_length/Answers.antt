@@ -1,6 +1,5 @@
-use Rattle.std.proofs.Common.{◌≡◌, ◌<◌, length, drop, arith}
+use Rattle.std.proofs.Common.{◌≡◌, length, arith}
 use lib.Seq.{drop-length}
-use Rattle.script.specs.Words.{run_length}
 use Rattle.script.proofs.Runs.{run_ends, run_goes}
 use Rattle.script.proofs.words.run_length.Goals as goal
 

@@ -1,5 +1,5 @@
-use Rattle.std.proofs.Common.{◌≡◌, true, false, not, Ok, vec_items, vec_len, sym, ap, ◌∙◌, subst}
-use Rattle.script.specs.Scripts.{plan_of, told_by, Reported}
+use Rattle.std.proofs.Common.{true, false, not, Ok, vec_items, vec_len, sym, ap, ◌∙◌, subst}
+use Rattle.script.specs.Scripts.{plan_of, Reported}
 use Rattle.script.proofs.Plans.{begun_by, setup_line}
 use Rattle.script.proofs.scripts.Draft.add_line.Goals as goal
 

@@ -1,4 +1,4 @@
-use Rattle.std.proofs.Common.{◌≡◌, Ok, vec_items, ap}
+use Rattle.std.proofs.Common.{Ok, vec_items, ap}
 use Rattle.script.specs.Scripts.{plan_of, told_of}
 use Rattle.script.specs.Words.{line_words}
 use Rattle.script.proofs.Plans.{told_as, with_steps, step_added}

@@ -1,6 +1,5 @@
 use Rattle.std.proofs.Common.{◌≡◌, length, refl, arith}
 use Rattle.std.proofs.lemmas.Bool.Decides.{nat_tests}
-use Rattle.script.specs.Words.{first_of, others_of}
 use Rattle.script.proofs.Runs.{taken}
 use Rattle.script.proofs.words.Words.next.Goals as goal
 
