@@ -57,19 +57,11 @@ def turned_quotes(text, names):
     return QUOTED.sub(lambda m: turned(m.group(0), names), text)
 
 
-def antt(text, names):
+def turned_code(text, names, comment):
+    """Names in the code alone: a comment has them between backticks, and a text is left. Rust's own code has no name with a dash, but its clauses do."""
     out = []
-    for line in text.split("\n"):
-        code, dashes, comment = line.partition("--")
-        out.append(turned(code, names) + dashes + turned_quotes(comment, names))
-    return "\n".join(out)
-
-
-def rust(text, names):
-    """Clauses and imports of definitions have names with a dash; code has none, and a comment or a text is left."""
-    out = []
-    for part in re.split(r'(//[^\n]*|"(?:\\.|[^"\\])*")', text):
-        if part.startswith("//"):
+    for part in re.split(rf'({comment}[^\n]*|"(?:\\.|[^"\\])*")', text):
+        if part.startswith(comment):
             out.append(turned_quotes(part, names))
         elif part.startswith('"'):
             out.append(part)
@@ -82,8 +74,8 @@ def main():
     names = defined()
     for path in files():
         old = open(path, encoding="utf-8").read()
-        turn = antt if path.endswith(".antt") else rust if path.endswith(".rt") else turned_quotes
-        new = turn(old, names)
+        comment = "--" if path.endswith(".antt") else "//"
+        new = turned_quotes(old, names) if path.endswith(".md") else turned_code(old, names, comment)
         if new != old:
             with open(path, "w", encoding="utf-8") as f:
                 f.write(new)
