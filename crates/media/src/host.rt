@@ -1,5 +1,5 @@
-// The address rules for C, on plain numbers: a refusal is 65,536 plus its number, which no result is.
-ghost use Rattle.std.specs.Prelude.{◌≡◌, ◌<◌, ◌&&◌, ltb, IfOk, if◌then◌else◌, Some, None, nat_lt};
+// The address rules on plain numbers, as C calls them by way of the crate `media_c`: a refusal is 65,536 plus its number, which no result is.
+ghost use Rattle.std.specs.Prelude.{◌≡◌, ◌<◌, ◌&&◌, IfOk, if◌then◌else◌, Some, None, nat_lt};
 ghost use Rattle.media.specs.Address.{place_given, block_reply, header_reply};
 ghost use Rattle.media.specs.Host.{host_number, check_reply, host_block, host_header, host_check};
 
@@ -9,8 +9,7 @@ use crate::address::{AddressRefusal, Place, check_word};
 const REFUSAL_BASE: u32 = 65_536;
 
 /// The block number of a place on a pack of this kind, or 65,536 plus the number of the refusal.
-#[unsafe(no_mangle)]
-pub extern "C" fn media_block_number(kind: u32, cylinder: u32, head: u32, sector: u32) -> u32
+pub fn media_block_number(kind: u32, cylinder: u32, head: u32, sector: u32) -> u32
     ensures answer { result ≡ host_block kind cylinder head sector }
     ensures apart { IfOk (block_reply kind (place_given cylinder head sector)) (λ b. b < 65536) }
 {
@@ -21,8 +20,7 @@ pub extern "C" fn media_block_number(kind: u32, cylinder: u32, head: u32, sector
 }
 
 /// The header word of a place on a pack of this kind, or 65,536 plus the number of the refusal.
-#[unsafe(no_mangle)]
-pub extern "C" fn media_header_word(kind: u32, cylinder: u32, head: u32, sector: u32) -> u32
+pub fn media_header_word(kind: u32, cylinder: u32, head: u32, sector: u32) -> u32
     ensures answer { result ≡ host_header kind cylinder head sector }
     ensures apart { IfOk (header_reply kind (place_given cylinder head sector)) (λ w. w < 65536) }
 {
@@ -33,8 +31,7 @@ pub extern "C" fn media_header_word(kind: u32, cylinder: u32, head: u32, sector:
 }
 
 /// The check word of a header word, or 65,536 plus the number of the refusal.
-#[unsafe(no_mangle)]
-pub extern "C" fn media_check_word(header: u32) -> u32
+pub fn media_check_word(header: u32) -> u32
     ensures answer { result ≡ host_check header }
     ensures apart { IfOk (check_reply header) (λ w. w < 65536) }
 {
@@ -56,7 +53,7 @@ fn told(reply: Result<u16, AddressRefusal>) -> u32
 
 /// The kind's number and the place, unless a number is too large for its type, and so for any pack.
 fn narrowed(kind: u32, cylinder: u32, head: u32, sector: u32) -> Option<(u8, Place)>
-    ensures { result ≡ (if ltb kind 256 && (nat_lt cylinder 65536 && (nat_lt head 256 && nat_lt sector 256)) then Some (kind, place_given cylinder head sector) else None) }
+    ensures { result ≡ (if nat_lt kind 256 && (nat_lt cylinder 65536 && (nat_lt head 256 && nat_lt sector 256)) then Some (kind, place_given cylinder head sector) else None) }
 {
     Some((
         u8::try_from(kind).ok()?,
