@@ -6,7 +6,7 @@ use Rattle.media.specs.declared.kinds.Kind.{Kind}
 use Rattle.rl11.specs.Drive.{is_there, is_pack, holds, is_empty, runs, fresh_drive, turned, in_state, after_event}
 use Rattle.rl11.specs.Keeps.{is_coupled, all_coupled, is_alone, packs_apart}
 use Rattle.rl11.specs.Panel.{same_kind, load_check, with_drives, pressed}
-use Rattle.rl11.specs.State.{fresh_state, is_unit, no_drive, drive_at, is_loaded}
+use Rattle.rl11.specs.State.{is_unit, no_drive, drive_at, is_loaded}
 use Rattle.rl11.specs.declared.drive.Drive.{Drive}
 use Rattle.rl11.specs.declared.drive.DriveState.{DriveState}
 use Rattle.rl11.specs.declared.drive.DriveState.TheVariants.{Empty, SpinUp, Brush, LoadHeads, Seek, LockOn, UnloadHeads, SpinDown}
@@ -17,11 +17,11 @@ use Rattle.exchanges.specs.declared.refusals.PanelRefusal.TheVariants.{NoDrive, 
 use Rattle.rl11.specs.declared.state.State.{State}
 
 -- Fresh drives are empty.
-fresh_coupled : (ks : List (Option Kind)) → all_coupled (map fresh_drive ks) ≡ true
+pub fresh_coupled : (ks : List (Option Kind)) → all_coupled (map fresh_drive ks) ≡ true
 fresh_coupled [] = refl
 fresh_coupled (k ∷ ks) = fresh_coupled ks
 
-fresh_apart : (ks : List (Option Kind)) → packs_apart (map fresh_drive ks) ≡ true
+pub fresh_apart : (ks : List (Option Kind)) → packs_apart (map fresh_drive ks) ≡ true
 fresh_apart [] = refl
 fresh_apart (k ∷ ks) = fresh_apart ks
 
@@ -132,10 +132,6 @@ new_apart p (x ∷ ds) (suc u) d e none h =
 -- What the controller keeps, as the ghost fields of its core say it.
 abbrev pub Kept : State → Type 0
 Kept s = record { coupled : all_coupled s.drives ≡ true; apart : packs_apart s.drives ≡ true; turning : s.angle < 40 }
-
--- A fresh controller has it.
-pub fresh_kept : (s : State) (ks : List (Option Kind)) → s ≡ fresh_state ks → Kept s
-fresh_kept s ks e = rw e (record { coupled = fresh_coupled ks; apart = fresh_apart ks; turning = omega arith })
 
 -- A press that leaves the drive's pack keeps it all.
 acted_kept : (there : Bool) (u : ℕ) (e : Event) (s : State) → (after_event e (get_or s.drives u no_drive)).pack ≡ (get_or s.drives u no_drive).pack
