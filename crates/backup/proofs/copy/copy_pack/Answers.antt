@@ -1,4 +1,4 @@
-use Rattle.std.proofs.Common.{◌≡◌, ◌+◌, ◌<◌, [], ◌∷◌, ◌++◌, Ok, vec_items, sym, ap, ◌∙◌, subst, inl, inr, arith}
+use Rattle.std.proofs.Common.{◌≡◌, ◌<◌, [], ◌∷◌, ◌++◌, Ok, vec_items, sym, ap, ◌∙◌, subst, inl, inr, arith}
 use Rattle.std.proofs.lemmas.Result.{err_from_is_err_and}
 use Rattle.media.specs.Kinds.{blocks_of}
 use Rattle.media.specs.Shelf.{takes_in}
@@ -22,7 +22,7 @@ returns-in_err-mark g c =
     let below : n < blocks_of k = omega arith in
     let there = present source (g.F.Shelf.lawful c.args.from.now) c.args.from_pack before c.args.to_pack k c.in_ok-kind.ensures n below in
     let facts = on_refused source c.args.from_pack before c.args.to_pack target after n c.loop-block.invariant.0 said.after c.in_err-mark.field-0.0 there (sym said.reply) in
-    let e = err_from_is_err_and c.from_residual-in-err-mark.result c.from_residual-in-err-mark.ensures.1 in
+    let e = err_from_is_err_and c.from_residual-in_err-mark.result c.from_residual-in_err-mark.ensures.1 in
     rw e.1
     (inr (
       n,
@@ -46,7 +46,7 @@ returns-in_err-push g c =
     let said = c.in_ok-mark.ensures in
     let below : n < blocks_of k = omega arith in
     let facts = on_skipped source c.args.from_pack before c.args.to_pack target after n c.loop-block.invariant.0 said.after c.in-Skipped.mark (sym said.reply ∙ ap Ok c.in-Skipped.is) in
-    let e = err_from_is_err_and c.from_residual-in-err-push.result c.from_residual-in-err-push.ensures.1 in
+    let e = err_from_is_err_and c.from_residual-in_err-push.result c.from_residual-in_err-push.ensures.1 in
     rw e.1
     (inr (
       n,

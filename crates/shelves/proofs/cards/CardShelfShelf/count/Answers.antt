@@ -7,8 +7,8 @@ loop-number-preserved c =
     let more = counts_on c.args.self.now.kinds c.loop-number.number-index c.from_number.result c.loop-number-test.true c.from_number.ensures c.if-is_none.ensures in
     (omega arith, omega arith)
 
-pub returns-after_loop-number : goal.returns-after_loop-number
-returns-after_loop-number c = omega (arith, counts_all c.args.self.now.kinds c.loop-number.number-index c.loop-number-test.false)
+pub returns-after-loop-number : goal.returns-after-loop-number
+returns-after-loop-number c = omega (arith, counts_all c.args.self.now.kinds c.loop-number.number-index c.loop-number-test.false)
 
 pub returns-then-is_none : goal.returns-then-is_none
 returns-then-is_none c = let end = counts_end c.args.self.now.kinds c.loop-number.number-index c.from_number.result c.loop-number-test.true c.from_number.ensures c.if-is_none.ensures in omega arith

@@ -7,7 +7,7 @@ pub returns : goal.returns
 returns c =
     let shelf = c.args.self.now in
     let long = c.if-buffer-ne-SECTOR_WORDS.false in
-    let start = sym (c.ok_or.ensures.ok-part ∙ ap result_ok c.in_ok-from.was) ∙ c.start.ensures.value in
+    let start = sym (c.ok_or.ensures.ok_part ∙ ap result_ok c.in_ok-from.was) ∙ c.start.ensures.value in
     record {
       reply = fetched shelf.kind shelf.words.now c.args.pack c.args.block c.args.buffer.now c.in_ok-from.from long start;
       filled = c.copy_from_slice.ensures.after ∙ filled shelf.kind shelf.words.now c.args.pack c.args.block c.args.buffer.now c.in_ok-from.from long start;

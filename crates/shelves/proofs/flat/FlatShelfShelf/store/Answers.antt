@@ -16,7 +16,7 @@ returns c =
     let buffer = c.args.buffer.now in
     let start = c.in_ok-to.to in
     let long = c.if-buffer-ne-SECTOR_WORDS.false in
-    let found = sym (c.ok_or.ensures.ok-part ∙ ap result_ok c.in_ok-to.was) ∙ c.start.ensures.value in
+    let found = sym (c.ok_or.ensures.ok_part ∙ ap result_ok c.in_ok-to.was) ∙ c.start.ensures.value in
     let copied = ap (put_mid start ((start + 128) - start) slice) c.copy_from_slice.ensures.after ∙ overwritten number slice pack block buffer start long found in
     record {
       reply = accepted number slice pack block buffer start long found;
