@@ -4,7 +4,6 @@ use Rattle.std.proofs.lemmas.Nat.{mod-pow-add}
 use Rattle.std.proofs.lemmas.Bool.Decides.{nat_tests}
 use Rattle.rl11.proofs.Packing.{function_small}
 use Rattle.rl11.specs.Registers.{function_number, function_numbered, any_error, control_word, control_fields}
-use Rattle.rl11.specs.Words.{worth}
 use Rattle.rl11.specs.declared.registers.ControlStatus.{ControlStatus}
 use Rattle.rl11.specs.declared.registers.Function.{Function}
 use Rattle.rl11.specs.declared.registers.Function.TheVariants.{NoOp, WriteCheck, GetStatus, Seek, ReadHeader, WriteData, ReadData, ReadWithoutHeaderCheck}

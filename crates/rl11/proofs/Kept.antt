@@ -1,14 +1,13 @@
 -- What the drives keep, over each thing that can happen to them.
-use Rattle.std.proofs.Common.{◌≡◌, ℕ, zero, suc, ◌-◌, ◌<◌, Bool, true, false, cond, not, ◌&&◌, ◌||◌, eqb, ltb, List, [], ◌∷◌, map, get_or, set, is_some, Some, None, Ok, Err, Option, Result, sym, refl, ap, ◌∙◌, arith}
+use Rattle.std.proofs.Common.{◌≡◌, ℕ, zero, suc, ◌-◌, ◌<◌, Bool, true, false, cond, not, ◌&&◌, ◌||◌, eqb, ltb, List, [], ◌∷◌, map, get_or, set, is_some, Some, None, Ok, Err, Option, Result, refl, ap, ◌∙◌, arith}
 use Rattle.std.proofs.lemmas.Bool.{and_parts, and_from, or_parts, or_from, not-true, not_from_false, cond-true}
 use Rattle.std.proofs.lemmas.Bool.Decides.{nat_tests}
 use Rattle.media.specs.declared.kinds.Kind.{Kind}
 use Rattle.rl11.specs.Drive.{is_there, is_pack, holds, is_empty, runs, fresh_drive, turned, in_state, after_event}
 use Rattle.rl11.specs.Keeps.{is_coupled, all_coupled, is_alone, packs_apart}
 use Rattle.rl11.specs.Panel.{same_kind, load_check, with_drives, pressed}
-use Rattle.rl11.specs.State.{fresh_state, is_unit, no_drive, drive_at, is_loaded}
+use Rattle.rl11.specs.State.{is_unit, no_drive, drive_at, is_loaded}
 use Rattle.rl11.specs.declared.drive.Drive.{Drive}
-use Rattle.rl11.specs.declared.drive.DriveErrors.{DriveErrors}
 use Rattle.rl11.specs.declared.drive.DriveState.{DriveState}
 use Rattle.rl11.specs.declared.drive.DriveState.TheVariants.{Empty, SpinUp, Brush, LoadHeads, Seek, LockOn, UnloadHeads, SpinDown}
 use Rattle.rl11.specs.declared.drive.Event.{Event}
@@ -18,11 +17,11 @@ use Rattle.exchanges.specs.declared.refusals.PanelRefusal.TheVariants.{NoDrive, 
 use Rattle.rl11.specs.declared.state.State.{State}
 
 -- Fresh drives are empty.
-fresh_coupled : (ks : List (Option Kind)) → all_coupled (map fresh_drive ks) ≡ true
+pub fresh_coupled : (ks : List (Option Kind)) → all_coupled (map fresh_drive ks) ≡ true
 fresh_coupled [] = refl
 fresh_coupled (k ∷ ks) = fresh_coupled ks
 
-fresh_apart : (ks : List (Option Kind)) → packs_apart (map fresh_drive ks) ≡ true
+pub fresh_apart : (ks : List (Option Kind)) → packs_apart (map fresh_drive ks) ≡ true
 fresh_apart [] = refl
 fresh_apart (k ∷ ks) = fresh_apart ks
 
@@ -132,18 +131,18 @@ new_apart p (x ∷ ds) (suc u) d e none h =
 
 -- What the controller keeps, as the ghost fields of its core say it.
 abbrev pub Kept : State → Type 0
-Kept s = (all_coupled s.drives ≡ true) × ((packs_apart s.drives ≡ true) × ((s.angle < 40) × Unit {0}))
-
--- A fresh controller has it.
-pub fresh_kept : (s : State) (ks : List (Option Kind)) → s ≡ fresh_state ks → Kept s
-fresh_kept s ks e = rw e (fresh_coupled ks, (fresh_apart ks, (omega arith, tt)))
+Kept s = record { coupled : all_coupled s.drives ≡ true; apart : packs_apart s.drives ≡ true; turning : s.angle < 40 }
 
 -- A press that leaves the drive's pack keeps it all.
 acted_kept : (there : Bool) (u : ℕ) (e : Event) (s : State) → (after_event e (get_or s.drives u no_drive)).pack ≡ (get_or s.drives u no_drive).pack
     → Kept s → Kept (cond there (with_drives (set s.drives u (after_event e (get_or s.drives u no_drive))) s) s)
 acted_kept false u e s same kept = kept
 acted_kept true u e s same kept =
-    (acted_coupled e u s.drives kept.0, (same_apart s.drives u (after_event e (get_or s.drives u no_drive)) same kept.1.0, kept.1.1))
+    record {
+      coupled = acted_coupled e u s.drives kept.coupled;
+      apart = same_apart s.drives u (after_event e (get_or s.drives u no_drive)) same kept.apart;
+      turning = kept.turning;
+    }
 
 pressed_kept : (r : Result (Unit {0}) PanelRefusal) (u : ℕ) (e : Event) (s : State) → (after_event e (get_or s.drives u no_drive)).pack ≡ (get_or s.drives u no_drive).pack
     → Kept s → Kept (pressed r u e s)
@@ -164,10 +163,12 @@ protect_kept r u s kept = pressed_kept r u Protect s refl kept
 loaded_kept : (there : Bool) (u p : ℕ) (s : State) → is_empty (cond there (get_or s.drives u no_drive) no_drive).state ≡ true → is_loaded p s.drives ≡ false
     → Kept s → Kept (cond there (with_drives (set s.drives u (after_event (Load p) (get_or s.drives u no_drive))) s) s)
 loaded_kept false u p s empty free kept = kept
-loaded_kept true u p s empty free kept = (
-  acted_coupled (Load p) u s.drives kept.0,
-  (new_apart p s.drives u (after_event (Load p) (get_or s.drives u no_drive)) (brought (get_or s.drives u no_drive) empty) free kept.1.0, kept.1.1),
-)
+loaded_kept true u p s empty free kept =
+    record {
+      coupled = acted_coupled (Load p) u s.drives kept.coupled;
+      apart = new_apart p s.drives u (after_event (Load p) (get_or s.drives u no_drive)) (brought (get_or s.drives u no_drive) empty) free kept.apart;
+      turning = kept.turning;
+    }
   where
     brought : (d : Drive) → is_empty d.state ≡ true → (after_event (Load p) d).pack ≡ Some p
     brought d e = ap (λ (x : Drive). x.pack) (cond-true (is_empty d.state) (turned SpinUp (Some p) d) d e)

@@ -11,7 +11,6 @@ use Rattle.rl11.specs.declared.drive.DriveState.{DriveState}
 use Rattle.rl11.specs.declared.drive.DriveState.TheVariants.{Empty, SpinUp, Brush, LoadHeads, Seek, LockOn, UnloadHeads, SpinDown}
 use Rattle.rl11.specs.declared.drive.Event.{Event}
 use Rattle.rl11.specs.declared.drive.Event.TheVariants.{Load, Unload, Protect, Tick}
-use Rattle.rl11.specs.declared.orders.Head.{Head}
 use Rattle.rl11.specs.declared.orders.Head.TheVariants.{Upper}
 use Rattle.rl11.specs.declared.orders.SeekOrder.{SeekOrder}
 

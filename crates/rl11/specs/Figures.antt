@@ -1,7 +1,7 @@
 -- Worked figures: what the definitions give beside what is wanted.
-use Rattle.std.specs.Prelude.{◌≡◌, ℕ, zero, suc, true, false, List, [], ◌∷◌, ◌++◌, Some, None, Option}
+use Rattle.std.specs.Prelude.{ℕ, zero, suc, false, List, [], ◌∷◌, ◌++◌, Some, None}
 use Rattle.std.specs.Option.{unwrap_or, option_map}
-use Rattle.media.specs.Figures.{Value, number, Figure, figure_of, figures, AllHold}
+use Rattle.media.specs.Figures.{number, Figure, figure_of, figures, AllHold}
 use Rattle.media.specs.declared.kinds.Kind.{Kind}
 use Rattle.media.specs.declared.kinds.Kind.TheVariants.{Rl01, Rl02}
 use Rattle.rl11.specs.Drive.{state_number, no_errors, volume_changed, after_event, after_seek, status_word}

@@ -1,5 +1,5 @@
 -- A controller without its type parameters: its state, and what its shelf and its memory mean.
-use Rattle.std.specs.Prelude.{ℕ, Bool, true, cond, ◌&&◌, List, [], ◌∷◌, Ok, Err, Result, nat_lt}
+use Rattle.std.specs.Prelude.{ℕ, cond, List, [], ◌∷◌, Ok, Err, Result, nat_lt}
 use Rattle.media.specs.Memory.{Words}
 use Rattle.media.specs.Shelf.{Packs}
 use Rattle.rl11.specs.declared.controller.Controller.{Controller}

@@ -20,7 +20,7 @@ head_number Lower = 1
 abbrev pub is_seek : ℕ → Bool
 is_seek w = bit_of 0 w && (not (bit_of 1 w) && (not (bit_of 3 w) && (not (bit_of 5 w) && not (bit_of 6 w))))
 
--- Bit 2 means inward, bit-of 4 is the head, bits 7 to 15 the difference.
+-- Bit 2 means inward, bit 4 is the head, bits 7 to 15 the difference.
 abbrev pub seek_order : ℕ → Option SeekOrder
 seek_order w = cond (is_seek w) (Some (record { inward = bit_of 2 w; head = head_for (bit_of 4 w); difference = w / 2 ^ 7 })) None
 

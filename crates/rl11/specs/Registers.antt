@@ -1,7 +1,6 @@
 -- The registers, and the words that the bus reads and writes there.
-use Rattle.std.specs.Prelude.{ℕ, ◌+◌, ◌*◌, ◌/◌, ◌%◌, ◌^◌, Bool, true, false, cond, not, ◌&&◌, ◌||◌, Some, None, Option, ◌==◌}
+use Rattle.std.specs.Prelude.{ℕ, ◌+◌, ◌*◌, ◌/◌, ◌%◌, ◌^◌, Bool, false, cond, not, ◌&&◌, ◌||◌, Some, None, Option, ◌==◌}
 use Rattle.rl11.specs.Words.{bit_of, worth, with_low_word, with_extension}
-use Rattle.rl11.specs.declared.registers.Command.{Command}
 use Rattle.rl11.specs.declared.registers.ControlStatus.{ControlStatus}
 use Rattle.rl11.specs.declared.registers.Faults.{Faults}
 use Rattle.rl11.specs.declared.registers.Function.{Function}

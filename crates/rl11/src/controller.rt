@@ -4,7 +4,7 @@ ghost use Rattle.media.specs.Kinds.{kind_of};
 ghost use Rattle.rl11.specs.Machine.{kinds_reply};
 ghost use Rattle.rl11.specs.State.{fresh_state};
 
-use crate::core::Core;
+use crate::keeping::Core;
 use crate::state::{State, UNITS};
 use exchanges::refusals::MakeRefusal;
 use media::kinds::Kind;

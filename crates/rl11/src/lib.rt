@@ -3,9 +3,9 @@
 
 mod bus;
 pub mod controller;
-pub mod core;
 pub mod drive;
 pub mod figures;
+pub mod keeping;
 mod looks;
 pub mod orders;
 mod panel;

@@ -1,4 +1,4 @@
-use Rattle.std.proofs.Common.{◌≡◌, sym, ◌∙◌, arith}
+use Rattle.std.proofs.Common.{sym, ◌∙◌, arith}
 use Rattle.std.proofs.lemmas.List.{at_drop_all}
 use Rattle.rl11.proofs.Units.{kinds_refused, kinds_more}
 use Rattle.rl11.proofs.controller.check_kinds.Goals as goal

@@ -1,8 +1,6 @@
-use Rattle.std.proofs.Common.{◌≡◌, ap, ◌∙◌}
 use Rattle.rl11.proofs.ControlWords.{fields_again}
 use Rattle.rl11.proofs.Packing.{control_packed, function_small}
 use Rattle.rl11.proofs.registers.ControlStatus.word.Goals as goal
-use Rattle.rl11.specs.Registers.{control_fields, control_word}
 
 pub returns : goal.returns
 returns c = record {
