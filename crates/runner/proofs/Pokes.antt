@@ -1,5 +1,5 @@
 -- Words put into memory one after the other, and texts that are made.
-use Rattle.std.proofs.Common.{◌≡◌, ℕ, ◌+◌, ◌<◌, ◌≤◌, true, false, cond, List, [], ◌∷◌, length, get_or, drop, is_ok, is_err, IfOk, Ok, Err, Result, sym, refl, ap, ◌∙◌}
+use Rattle.std.proofs.Common.{◌≡◌, ℕ, ◌+◌, ◌<◌, ◌≤◌, true, false, cond, List, ◌∷◌, length, get_or, drop, is_ok, is_err, IfOk, Ok, Err, Result, sym, refl, ap, ◌∙◌}
 use Rattle.std.proofs.lemmas.List.{drop_all}
 use Rattle.media.specs.Memory.{Words, write_reply, after_write}
 use Rattle.media.specs.declared.memory.MemoryRefusal.{MemoryRefusal}

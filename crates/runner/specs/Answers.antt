@@ -1,5 +1,5 @@
 -- The answers of a controller as text.
-use Rattle.std.specs.Prelude.{ℕ, Bool, cond, List, [], ◌∷◌, ◌++◌, codes, decimal}
+use Rattle.std.specs.Prelude.{ℕ, cond, List, ◌++◌, codes, decimal}
 use Rattle.exchanges.specs.Refusals.{refusal_number}
 use Rattle.exchanges.specs.declared.calls.Answer.{Answer}
 use Rattle.exchanges.specs.declared.calls.Answer.TheVariants.{Word, Done, Vector, Ticked, Refused}

@@ -3,7 +3,7 @@ use Rattle.std.specs.Prelude.{ℕ, zero, suc, ◌+◌, min, List, [], ◌∷◌,
 use Rattle.media.specs.Kinds.{kind_number}
 use Rattle.media.specs.Marks.{mark_number}
 use Rattle.media.specs.Memory.{Words, read_reply}
-use Rattle.media.specs.Shelf.{Packs, Sector, kind_reply, shelf_refusal_number}
+use Rattle.media.specs.Shelf.{Sector, kind_reply, shelf_refusal_number}
 use Rattle.media.specs.declared.kinds.Kind.{Kind}
 use Rattle.media.specs.declared.memory.MemoryRefusal.{MemoryRefusal}
 use Rattle.media.specs.declared.shelf.ShelfRefusal.{ShelfRefusal}

@@ -1,4 +1,4 @@
-use Rattle.std.proofs.Common.{◌≡◌, Some, vec_items, string_bytes, sym, ap, ◌∙◌}
+use Rattle.std.proofs.Common.{◌≡◌, Some, vec_items, string_bytes, ap, ◌∙◌}
 use Rattle.std.specs.List.{slice_get}
 use Rattle.script.specs.Scripts.{bench_of}
 use Rattle.runner.specs.Setups.{room_for, roomy_text}
