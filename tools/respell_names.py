@@ -9,9 +9,14 @@ library keep theirs. In prose, a name is respelled only between backticks. It ch
 import os
 import re
 
-WORD = re.compile(r"[A-Za-z_][\w']*(?:-[\w']+)+")
+WORD = re.compile(r"(?<![\w'-])[A-Za-z_][\w']*(?:-[\w']+)+")
 SIGNATURE = re.compile(r"^\s*(?:abbrev |unfoldable )?(?:pub )?([^\s(){}:;,]+(?: [^\s(){}:;,]+)*) :(?: (goal\.)?|$)", re.M)
 TYPE = re.compile(r"^\s*(?:pub )?(?:record|data) (\S+)", re.M)
+# parameters and names of a `let`, which no signature shows
+LOCAL = {
+    "Free-in", "b-is", "fetched-2", "has-card", "left-lawful", "memory-meaning", "n-is", "not-it", "now-stored", "open-takes", "r-is", "right-lawful",
+    "shelf-meaning", "whole-start", "yes-ok",
+}
 QUOTED = re.compile(r"`[^`\n]*`")
 
 
@@ -30,8 +35,8 @@ def code_of(text):
 
 
 def defined():
-    """The names with a dash that a file of specs/ or proofs/ defines, but for the answers to the checker's goals."""
-    names = set()
+    """The names with a dash that a file of specs/ or proofs/ defines, but for the answers to the checker's goals, and the local ones."""
+    names = set(LOCAL)
     for path in files():
         if not path.endswith(".antt"):
             continue
@@ -44,9 +49,9 @@ def defined():
 
 
 def respelled(name):
-    if name[0].isupper():
+    if name[0].isupper() and name not in LOCAL:
         return "".join(part[0].upper() + part[1:] for part in name.split("-"))
-    return name.replace("-", "_")
+    return name.replace("-", "_").lower()
 
 
 def turned(text, names):

@@ -146,18 +146,18 @@ module _ (source : Packs) (p : ℕ) (before : Packs) (q : ℕ) (target after : P
     -- the sectors of the target once the sector is stored
     by_place : after ≡ stored target q n sector.words (takes_in after) → (pack block : ℕ) (here : Bool) → (eqb pack q && eqb block n) ≡ here → cond here (option_map (rewritten sector.words) (target.sector pack block)) (option_map (kept (takes_in after pack block)) (target.sector pack block)) ≡ at (takes_in after) pack block (eqb pack q && (ltb block (n + 1) && clean_at source p block))
     unfolding at
-    by_place now-stored pack block true here =
+    by_place now_stored pack block true here =
         let parts = and_parts (eqb pack q) (eqb block n) here in
         let was : target.sector q n ≡ option_map (kept (takes_in target q n)) (before.sector q n) = target_at q n ∙ ap (at (takes_in target) q n) (not_before q n (clean_at source p n)) in
         let takes : takes_in after q n ≡ taking_of (option_map (rewritten sector.words) (option_map (kept (takes_in target q n)) (before.sector q n))) =
-        ap (λ a. taking_of (a.sector q n)) now-stored
+        ap (λ a. taking_of (a.sector q n)) now_stored
         ∙ ap (λ b. taking_of (cond b (option_map (rewritten sector.words) (target.sector q n)) (option_map (kept (takes_in after q n)) (target.sector q n)))) (at_last_place q n)
         ∙ ap (λ o. taking_of (option_map (rewritten sector.words) o)) was in
         rw (eqb-true pack q parts.0, eqb-true block n parts.1)
         (ap (option_map (rewritten sector.words)) was ∙ landed sector.words (takes_in target q n) (takes_in after q n) (before.sector q n) takes
         ∙ ap (λ ws. option_map (copied_onto ws (takes_in after q n)) (before.sector q n)) (source_words sector there)
         ∙ sym (ap (at (takes_in after) q n) (at_last q n (clean_at source p n) clean_here)))
-    by_place now-stored pack block false other =
+    by_place now_stored pack block false other =
         ap (option_map (kept (takes_in after pack block))) (target_at pack block)
         ∙ passed (eqb pack q && (ltb block n && clean_at source p block)) (words_at source p block) (takes_in target pack block) (takes_in after pack block) (before.sector pack block)
         ∙ ap (at (takes_in after) pack block) (elsewhere pack q block n (clean_at source p block) other)
@@ -166,10 +166,10 @@ module _ (source : Packs) (p : ℕ) (before : Packs) (q : ℕ) (target after : P
   unfolding at
   on_copied reply =
       let s = was_copied (source.sector p n) target q n reply in
-      let now-stored = after_reply s.sector s.there s.unmarked (Ok tt) s.reply in
+      let now_stored = after_reply s.sector s.there s.unmarked (Ok tt) s.reply in
       let sectors : ℕ → ℕ → Option Sector = (stored target q n s.sector.words (takes_in after)).sector in (
-        now-stored ∙ ap (λ (ks : List Kind). (record { kinds = ks; sector = sectors })) (ap (λ t. t.kinds) front)
-            ∙ same_packs before.kinds sectors _ (λ pack block. by_place s.sector s.there s.unmarked now-stored pack block (eqb pack q && eqb block n) refl),
+        now_stored ∙ ap (λ (ks : List Kind). (record { kinds = ks; sector = sectors })) (ap (λ t. t.kinds) front)
+            ∙ same_packs before.kinds sectors _ (λ pack block. by_place s.sector s.there s.unmarked now_stored pack block (eqb pack q && eqb block n) refl),
         clean_here s.sector s.there s.unmarked,
       )
 

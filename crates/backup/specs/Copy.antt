@@ -23,9 +23,9 @@ copy_reply source p target q block = sector_reply (source.sector p block) target
 
 -- The target after the sector was stored or left out.
 abbrev pub after_sector : Option Sector → Packs → ℕ → ℕ → (ℕ → ℕ → Bool) → Packs
-after_sector None target q block open-takes = target
-after_sector (Some s) target q block open-takes = cond (is_clean s.mark) (after_store target q block s.words open-takes) target
+after_sector None target q block open_takes = target
+after_sector (Some s) target q block open_takes = cond (is_clean s.mark) (after_store target q block s.words open_takes) target
 
--- The target after a copy, where `open-takes` says which of its other sectors take then.
+-- The target after a copy, where `open_takes` says which of its other sectors take then.
 abbrev pub after_copy : Packs → ℕ → Packs → ℕ → ℕ → (ℕ → ℕ → Bool) → Packs
-after_copy source p target q block open-takes = after_sector (source.sector p block) target q block open-takes
+after_copy source p target q block open_takes = after_sector (source.sector p block) target q block open_takes

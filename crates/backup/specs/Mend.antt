@@ -13,11 +13,11 @@ own_reply (Some s) shelf pack block = store_reply shelf pack block s.words
 abbrev pub mend_reply : Packs → ℕ → ℕ → Result (Unit {0}) ShelfRefusal
 mend_reply shelf pack block = own_reply (shelf.sector pack block) shelf pack block
 
--- The shelf after the store, where `open-takes` says which of its other sectors take then.
+-- The shelf after the store, where `open_takes` says which of its other sectors take then.
 abbrev pub after_own : Option Sector → Packs → ℕ → ℕ → (ℕ → ℕ → Bool) → Packs
-after_own None shelf pack block open-takes = shelf
-after_own (Some s) shelf pack block open-takes = after_store shelf pack block s.words open-takes
+after_own None shelf pack block open_takes = shelf
+after_own (Some s) shelf pack block open_takes = after_store shelf pack block s.words open_takes
 
 -- The shelf afterwards.
 abbrev pub after_mend : Packs → ℕ → ℕ → (ℕ → ℕ → Bool) → Packs
-after_mend shelf pack block open-takes = after_own (shelf.sector pack block) shelf pack block open-takes
+after_mend shelf pack block open_takes = after_own (shelf.sector pack block) shelf pack block open_takes

@@ -34,15 +34,15 @@ clean_at shelf pack block = is_clean (mark_at shelf pack block)
 
 -- A sector that was copied onto has the words, has lost damaged data from its mark, and takes or not.
 abbrev pub copied_onto : List ℕ → Bool → Sector → Sector
-copied_onto buffer open-takes s = record { words = buffer; mark = mended s.mark; takes = open-takes }
+copied_onto buffer open_takes s = record { words = buffer; mark = mended s.mark; takes = open_takes }
 
 -- The target after the first n blocks of pack p were copied to its pack q: each of these that is clean has the words of its source, and every other
 -- sector is as it was; only which sectors take is open.
 abbrev pub copied_front : Packs → ℕ → Packs → ℕ → ℕ → (ℕ → ℕ → Bool) → Packs
-copied_front source p before q n open-takes =
+copied_front source p before q n open_takes =
     record {
       kinds = before.kinds;
-      sector = λ pack block. cond (pack == q && (nat_lt block n && clean_at source p block)) (option_map (copied_onto (words_at source p block) (open-takes pack block)) (before.sector pack block)) (option_map (kept (open-takes pack block)) (before.sector pack block));
+      sector = λ pack block. cond (pack == q && (nat_lt block n && clean_at source p block)) (option_map (copied_onto (words_at source p block) (open_takes pack block)) (before.sector pack block)) (option_map (kept (open_takes pack block)) (before.sector pack block));
     }
 
 -- Those of the first n blocks that are not clean, in their order, each with its mark.

@@ -43,7 +43,7 @@ no_words shelf lawful pack block k is past =
     none_words (Some s) e = absurd (false≢true (sym e))
 
 -- Two packs.
-module _ (left : Packs) (left-lawful : Lawful left) (p : ℕ) (right : Packs) (right-lawful : Lawful right) (q : ℕ) where
+module _ (left : Packs) (left_lawful : Lawful left) (p : ℕ) (right : Packs) (right_lawful : Lawful right) (q : ℕ) where
   agree_below : (n : ℕ) → Decides (blocks_agree left p right q n) ((block : ℕ) → block < n → words_at left p block ≡ words_at right q block)
   agree_below n =
       Decides-below_and (λ b. words_agree (words_at left p b) (words_at right q b)) (λ b. words_at left p b ≡ words_at right q b) (blocks_agree left p right q)
@@ -57,7 +57,7 @@ module _ (left : Packs) (left-lawful : Lawful left) (p : ℕ) (right : Packs) (r
       (λ h. (
         e ∙ ap Some h.0 ∙ sym f,
         λ b. ⊎_elim (λ below. h.1 b below)
-            (λ past. no_words left left-lawful p b j e past ∙ sym (no_words right right-lawful q b k f (rw (sym h.0) past)))
+            (λ past. no_words left left_lawful p b j e past ∙ sym (no_words right right_lawful q b k f (rw (sym h.0) past)))
             (cases_lt b (blocks_of j)),
       ))
       (λ h. (let same : Some j ≡ Some k = sym e ∙ h.0 ∙ f in cc, λ b below. h.1 b))

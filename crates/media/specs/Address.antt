@@ -1,5 +1,5 @@
 -- Where a sector lies, the numbers that name it, and the check word of its header.
-use Rattle.std.specs.Prelude.{ℕ, zero, suc, ◌+◌, ◌*◌, ◌/◌, ◌%◌, Bool, false, cond, ◌&&◌, ltb, List, [], ◌∷◌, ◌++◌, Some, None, Ok, Err, Result, ◌==◌, bit_xor, nat_lt}
+use Rattle.std.specs.Prelude.{ℕ, zero, suc, ◌+◌, ◌*◌, ◌/◌, ◌%◌, Bool, false, cond, ◌&&◌, List, [], ◌∷◌, ◌++◌, Some, None, Ok, Err, Result, ◌==◌, bit_xor, nat_lt}
 use Rattle.media.specs.declared.address.AddressRefusal.{AddressRefusal}
 use Rattle.media.specs.declared.address.AddressRefusal.TheVariants.{NoSector}
 use Rattle.media.specs.declared.address.Place.{Place}
@@ -52,7 +52,7 @@ header_reply n p = or_no_sector (for_kind n (λ k. on_pack k p)) (header_at p)
 
 -- The place of a block on a pack of the kind with a number.
 abbrev pub place_of_block : ℕ → ℕ → Result Place AddressRefusal
-place_of_block n b = or_no_sector (for_kind n (λ k. ltb b (blocks_of k))) (place_at_block b)
+place_of_block n b = or_no_sector (for_kind n (λ k. nat_lt b (blocks_of k))) (place_at_block b)
 
 -- The place of a header word on a pack of the kind with a number.
 abbrev pub place_of_header : ℕ → ℕ → Result Place AddressRefusal

@@ -69,14 +69,14 @@ rewritten buffer s = record { words = buffer; mark = mended s.mark; takes = true
 
 -- Every other sector keeps its words and its mark; whether it takes afterwards is open.
 abbrev pub kept : Bool → Sector → Sector
-kept open-takes s = record { words = s.words; mark = s.mark; takes = open-takes }
+kept open_takes s = record { words = s.words; mark = s.mark; takes = open_takes }
 
--- The shelf after a store at a block of a pack, where `open-takes` says which of the other sectors take then.
+-- The shelf after a store at a block of a pack, where `open_takes` says which of the other sectors take then.
 abbrev pub stored : Packs → ℕ → ℕ → List ℕ → (ℕ → ℕ → Bool) → Packs
-stored shelf pack block buffer open-takes =
+stored shelf pack block buffer open_takes =
     record {
       kinds = shelf.kinds;
-      sector = λ p b. cond (p == pack && b == block) (option_map (rewritten buffer) (shelf.sector p b)) (option_map (kept (open-takes p b)) (shelf.sector p b));
+      sector = λ p b. cond (p == pack && b == block) (option_map (rewritten buffer) (shelf.sector p b)) (option_map (kept (open_takes p b)) (shelf.sector p b));
     }
 
 -- A refused call leaves the shelf.
@@ -86,8 +86,8 @@ left_by (Err _) before after = before
 
 -- The shelf after a store that may have been refused.
 abbrev pub after_store : Packs → ℕ → ℕ → List ℕ → (ℕ → ℕ → Bool) → Packs
-after_store shelf pack block buffer open-takes =
-    left_by (store_reply shelf pack block buffer) shelf (stored shelf pack block buffer open-takes)
+after_store shelf pack block buffer open_takes =
+    left_by (store_reply shelf pack block buffer) shelf (stored shelf pack block buffer open_takes)
 
 -- A shelf made of the kinds of its packs and of what stands at each place, of which it has the blocks of those kinds.
 abbrev pub shelf_of : List Kind → (ℕ → ℕ → Sector) → Packs

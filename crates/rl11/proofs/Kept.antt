@@ -93,11 +93,11 @@ loaded_same q (x ∷ ds) (suc u) d e = ap (λ b. holds q x || b) (loaded_same q 
 
 -- A pack that is in none of the drives is in none after one that has not got it either has come into their row.
 loaded_other : (q : ℕ) (ds : List Drive) (u : ℕ) (d : Drive) → is_loaded q ds ≡ false → holds q d ≡ false → is_loaded q (set ds u d) ≡ false
-loaded_other q [] u d none not-it = refl
-loaded_other q (x ∷ ds) zero d none not-it = or_from (holds q d) (is_loaded q ds) not-it (or_parts (holds q x) (is_loaded q ds) none).1
-loaded_other q (x ∷ ds) (suc u) d none not-it =
+loaded_other q [] u d none not_it = refl
+loaded_other q (x ∷ ds) zero d none not_it = or_from (holds q d) (is_loaded q ds) not_it (or_parts (holds q x) (is_loaded q ds) none).1
+loaded_other q (x ∷ ds) (suc u) d none not_it =
     let both = or_parts (holds q x) (is_loaded q ds) none in
-    or_from (holds q x) (is_loaded q (set ds u d)) both.0 (loaded_other q ds u d both.1 not-it)
+    or_from (holds q x) (is_loaded q (set ds u d)) both.0 (loaded_other q ds u d both.1 not_it)
 
 -- A change of a drive that leaves its pack leaves the packs apart.
 pub same_apart : (ds : List Drive) (u : ℕ) (d : Drive) → d.pack ≡ (get_or ds u no_drive).pack → packs_apart ds ≡ true → packs_apart (set ds u d) ≡ true

@@ -15,8 +15,8 @@ pub record Machine : Type 0 where
 
 -- The machine that a controller is, by the meanings of its shelf and of its memory.
 abbrev pub machine_of : {S M : Type 0} → (S → Packs) → (M → Words) → Controller S M → Machine
-machine_of shelf-meaning memory-meaning c =
-    record { state = c.core.state; packs = shelf-meaning c.shelf; contents = memory-meaning c.memory }
+machine_of shelf_meaning memory_meaning c =
+    record { state = c.core.state; packs = shelf_meaning c.shelf; contents = memory_meaning c.memory }
 
 -- Kinds are 0 for no drive, 1 and 2; a controller with another is refused with 1.
 abbrev pub kinds_reply : List ℕ → Result (Unit {0}) MakeRefusal

@@ -15,7 +15,7 @@ pub all_cards : (ls : List CardLine) (i : ℕ) (whole t : List Card) → length 
 all_cards ls i whole t h e = sym (append-nil t) ∙ ap (λ x. t ++ map shelf_card x) (sym (drop_all i ls h)) ∙ e
 
 pub one_free : (whole t u : List Card) (n k : ℕ) → n ≡ suc k → t ++ replicate n free_card ≡ whole → u ≡ t ++ (free_card ∷ []) → u ++ replicate k free_card ≡ whole
-one_free whole t u n k n-is e f = ap (λ x. x ++ replicate k free_card) f ∙ append_assoc t (free_card ∷ []) (replicate k free_card) ∙ ap (λ x. t ++ replicate x free_card) (sym n-is) ∙ e
+one_free whole t u n k n_is e f = ap (λ x. x ++ replicate k free_card) f ∙ append_assoc t (free_card ∷ []) (replicate k free_card) ∙ ap (λ x. t ++ replicate x free_card) (sym n_is) ∙ e
 
 pub none_free : (whole t : List Card) (n : ℕ) → n ≡ 0 → t ++ replicate n free_card ≡ whole → t ≡ whole
-none_free whole t n n-is e = sym (append-nil t) ∙ ap (λ x. t ++ replicate x free_card) (sym n-is) ∙ e
+none_free whole t n n_is e = sym (append-nil t) ∙ ap (λ x. t ++ replicate x free_card) (sym n_is) ∙ e

@@ -19,15 +19,15 @@ one_word whole t u ws i h e f =
     ap (λ x. x ++ rest) f ∙ append_assoc t (codes " " ++ six_digits (get_or ws i 0)) rest ∙ ap (λ x. t ++ words_text x) (sym (drop_one ws i 0 h)) ∙ e
 
 pub one_cell : (m : Words) (whole t u : List ℕ) (a b n k : ℕ) → n ≡ suc k → b ≡ next_address a → t ++ cells_text m a n ≡ whole → u ≡ t ++ (codes " " ++ cell_text (read_reply m a)) → u ++ cells_text m b k ≡ whole
-one_cell m whole t u a b n k n-is b-is e f =
+one_cell m whole t u a b n k n_is b_is e f =
     let rest = cells_text m b k in
-    ap (λ x. x ++ rest) f ∙ append_assoc t (codes " " ++ cell_text (read_reply m a)) rest ∙ ap (λ x. t ++ ((codes " " ++ cell_text (read_reply m a)) ++ cells_text m x k)) b-is ∙ ap (λ x. t ++ cells_text m a x) (sym n-is) ∙ e
+    ap (λ x. x ++ rest) f ∙ append_assoc t (codes " " ++ cell_text (read_reply m a)) rest ∙ ap (λ x. t ++ ((codes " " ++ cell_text (read_reply m a)) ++ cells_text m x k)) b_is ∙ ap (λ x. t ++ cells_text m a x) (sym n_is) ∙ e
 
 pub none_left : (t u ws : List ℕ) (i : ℕ) → length ws ≤ i → u ++ words_text (drop i ws) ≡ t ++ words_text ws → u ≡ t ++ words_text ws
 none_left t u ws i h e = sym (append-nil u) ∙ ap (λ x. u ++ words_text x) (sym (drop_all i ws h)) ∙ e
 
 pub no_cells : (m : Words) (whole t : List ℕ) (a n : ℕ) → n ≡ 0 → t ++ cells_text m a n ≡ whole → t ≡ whole
-no_cells m whole t a n n-is e = sym (append-nil t) ∙ ap (λ x. t ++ cells_text m a x) (sym n-is) ∙ e
+no_cells m whole t a n n_is e = sym (append-nil t) ∙ ap (λ x. t ++ cells_text m a x) (sym n_is) ∙ e
 
 -- two pieces, of which the second was written last
 pub then_made : {E : Type 0} (r : Result (Unit {0}) E) (t u v x y z : List ℕ) → u ≡ t ++ x → IfOk r (λ _. v ≡ u ++ y) → z ≡ x ++ y → IfOk r (λ _. v ≡ t ++ z)
@@ -35,7 +35,7 @@ then_made (Ok _) t u v x y z e h k = h ∙ ap (λ w. w ++ y) e ∙ append_assoc 
 then_made (Err _) t u v x y z e h k = tt
 
 pub some_cells : (m : Words) (a b n k : ℕ) → n ≡ suc k → b ≡ next_address a → memory_text m a n ≡ cell_text (read_reply m a) ++ cells_text m b k
-some_cells m a b n k n-is b-is = ap (memory_text m a) n-is ∙ ap (λ x. cell_text (read_reply m a) ++ cells_text m x k) (sym b-is)
+some_cells m a b n k n_is b_is = ap (memory_text m a) n_is ∙ ap (λ x. cell_text (read_reply m a) ++ cells_text m x k) (sym b_is)
 
 pub sector_shown : (o : Option Sector) (before after : List ℕ) (m : Mark) (n : ℕ) → Ok m ≡ ok_or (option_map (λ s. s.mark) o) NoSector → after ≡ unwrap_or (option_map (λ s. s.words) o) before → n ≡ mark_number m → sector_text o ≡ (codes "mark " ++ (decimal n ++ codes " words")) ++ words_text after
 sector_shown None before after m n e f k = let z : ◌≡◌ {A = ℕ} 0 1 = cc in absurd (omega arith)

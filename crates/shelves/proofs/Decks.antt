@@ -136,6 +136,6 @@ slot_within deck pack block =
     (λ i e. (found_at (is_of pack block) deck i (card_of 0 0 0 []) e).within) (λ i e. (found_at is_free deck i (card_of 0 0 0 []) e).within)
   where
     found_within : (own free : Option ℕ) → ((i : ℕ) → own ≡ Some i → i < length deck) → ((i : ℕ) → free ≡ Some i → i < length deck) → Within (length deck) (found_slot own free)
-    found_within (Some i) free own_in Free-in = own_in i refl
-    found_within None (Some i) own_in Free-in = Free-in i refl
-    found_within None None own_in Free-in = tt
+    found_within (Some i) free own_in free_in = own_in i refl
+    found_within None (Some i) own_in free_in = free_in i refl
+    found_within None None own_in free_in = tt

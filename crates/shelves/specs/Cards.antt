@@ -71,8 +71,8 @@ claimed pack block buffer _ = card_of pack block 0 buffer
 
 -- A store overwrites the sector's card; where it has none, it claims the first that is free.
 abbrev pub put_card : Bool → List Card → ℕ → ℕ → List ℕ → List Card
-put_card has-card deck pack block buffer =
-    cond has-card (change_first (is_of pack block) (overwritten buffer) deck) (change_first is_free (claimed pack block buffer) deck)
+put_card has_card deck pack block buffer =
+    cond has_card (change_first (is_of pack block) (overwritten buffer) deck) (change_first is_free (claimed pack block buffer) deck)
 
 -- The cards that a store leaves by its reply; a refused one leaves them as they are.
 abbrev pub deck_left : Result (Unit {0}) ShelfRefusal → List Card → ℕ → ℕ → List ℕ → List Card

@@ -11,8 +11,8 @@ pub returns-then-not-branch : goal.returns-then-not-branch
 returns-then-not-branch g c =
     let left = g.L.Shelf.packs c.args.left.now in
     let right = g.R.Shelf.packs c.args.right.now in
-    let left-lawful = g.L.Shelf.lawful c.args.left.now in
-    let right-lawful = g.R.Shelf.lawful c.args.right.now in
+    let left_lawful = g.L.Shelf.lawful c.args.left.now in
+    let right_lawful = g.R.Shelf.lawful c.args.right.now in
     let p = c.args.left_pack in
     let q = c.args.right_pack in
     let k = c.in_ok-kind.kind in
@@ -21,8 +21,8 @@ returns-then-not-branch g c =
     let equal = differs_false the_type (search rules) c.in_ok-kind-2.field-0 k (sym c.if-ne.ensures) in
     let below : block < blocks_of k = omega arith in
     let apart : words_agree (words_at left p block) (words_at right q block) ≡ false = cc (c.in_ok-same_sector.ensures, c.if-not-branch.true) in
-    let disagree = differ left left-lawful p right right-lawful q k j c.in_ok-kind.ensures c.in_ok-kind-2.ensures equal block below apart in
-    let facts = answered left left-lawful p right right-lawful q k j c.in_ok-kind.ensures c.in_ok-kind-2.ensures equal false disagree in
+    let disagree = differ left left_lawful p right right_lawful q k j c.in_ok-kind.ensures c.in_ok-kind-2.ensures equal block below apart in
+    let facts = answered left left_lawful p right right_lawful q k j c.in_ok-kind.ensures c.in_ok-kind-2.ensures equal false disagree in
     record { reply = facts.0; exact = facts.1 }
 
 pub loop-block-preserved : goal.loop-block-preserved

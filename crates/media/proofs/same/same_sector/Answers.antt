@@ -13,6 +13,6 @@ returns g c =
     let ours = c.fetch.ensures.filled ∙ brings (g.L.Shelf.packs left) (g.L.Shelf.lawful left) c.args.left_pack block (replicate 128 0) refl c.requires.left_there in
     let theirs = c.fetch-2.ensures.filled ∙ brings (g.R.Shelf.packs right) (g.R.Shelf.lawful right) c.args.right_pack block (replicate 128 0) refl c.requires.right_there in
     let fetched = c.fetch.new.buffer in
-    let fetched-2 = c.fetch-2.new.buffer in
-    let agree = same_from_decides c.eq.result (words_agree fetched fetched-2) (slice_eq-Decides Decides-eqb fetched fetched-2 c.eq.result c.eq.ensures) (agree_decides fetched fetched-2) in
-    ap Ok (agree ∙ ap (λ ws. words_agree ws fetched-2) ours ∙ ap (words_agree _) theirs)
+    let fetched_2 = c.fetch-2.new.buffer in
+    let agree = same_from_decides c.eq.result (words_agree fetched fetched_2) (slice_eq-Decides Decides-eqb fetched fetched_2 c.eq.result c.eq.ensures) (agree_decides fetched fetched_2) in
+    ap Ok (agree ∙ ap (λ ws. words_agree ws fetched_2) ours ∙ ap (words_agree _) theirs)

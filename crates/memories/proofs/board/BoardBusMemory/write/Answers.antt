@@ -22,10 +22,10 @@ returns-then-index-self c =
 pub returns : goal.returns
 returns c =
     let ok = sym c.in_ok-check_address.ensures in
-    let yes-ok = board_accepts c.args.self.now.words.now c.args.address ok c.if-index-self.false in
+    let yes_ok = board_accepts c.args.self.now.words.now c.args.address ok c.if-index-self.false in
     record {
-      reply = sym yes-ok;
+      reply = sym yes_ok;
       after = board_set c.args.self.now.words.now c.args.address ok c.args.word c.if-index-self.false;
-      slice = simp yes-ok;
+      slice = simp yes_ok;
       lender = refl;
     }
