@@ -1,5 +1,5 @@
 -- What a copy of a whole pack leaves.
-use Rattle.std.specs.Prelude.{◌≡◌, ℕ, zero, suc, ◌<◌, Bool, true, false, cond, ◌&&◌, ◌⊎◌, List, [], ◌∷◌, ◌++◌, Some, None, Ok, Err, Option, Result, ◌==◌, nat_lt}
+use Rattle.std.specs.Prelude.{◌≡◌, ℕ, zero, suc, ◌<◌, Bool, true, false, ◌&&◌, ◌⊎◌, List, [], ◌∷◌, ◌++◌, Some, None, Ok, Err, Option, Result, ◌==◌, nat_lt, if◌then◌else◌}
 use Rattle.std.specs.List.{slice_get}
 use Rattle.std.specs.Option.{option_map, unwrap_or}
 use Rattle.media.specs.Kinds.{kind_number, blocks_of}
@@ -16,7 +16,7 @@ use Rattle.backup.specs.declared.copy.LeftOut.{LeftOut}
 
 -- The one kind of two packs; 9 where either is missing, and a refusal of its own where the kinds differ.
 abbrev pub one_kind : Option Kind → Option Kind → Result Kind CopyError
-one_kind (Some j) (Some k) = cond (kind_number k == kind_number j) (Ok j) (Err KindsDiffer)
+one_kind (Some j) (Some k) = if kind_number k == kind_number j then Ok j else Err KindsDiffer
 one_kind (Some j) None = Err (Declined NoPack)
 one_kind None other = Err (Declined NoPack)
 
@@ -42,14 +42,14 @@ abbrev pub copied_front : Packs → ℕ → Packs → ℕ → ℕ → (ℕ → �
 copied_front source p before q n open_takes =
     record {
       kinds = before.kinds;
-      sector = λ pack block. cond (pack == q && (nat_lt block n && clean_at source p block)) (option_map (copied_onto (words_at source p block) (open_takes pack block)) (before.sector pack block)) (option_map (kept (open_takes pack block)) (before.sector pack block));
+      sector = λ pack block. if pack == q && (nat_lt block n && clean_at source p block) then option_map (copied_onto (words_at source p block) (open_takes pack block)) (before.sector pack block) else option_map (kept (open_takes pack block)) (before.sector pack block);
     }
 
 -- Those of the first n blocks that are not clean, in their order, each with its mark.
 abbrev pub marked_blocks : Packs → ℕ → ℕ → List LeftOut
 marked_blocks source p zero = []
 marked_blocks source p (suc n) =
-    marked_blocks source p n ++ cond (clean_at source p n) [] ((record { block = n; mark = mark_at source p n }) ∷ [])
+    marked_blocks source p n ++ (if clean_at source p n then [] else (record { block = n; mark = mark_at source p n }) ∷ [])
 
 -- A whole pack was copied, and these sectors were left out.
 pub record Whole (source : Packs) (p : ℕ) (before : Packs) (q : ℕ) (after : Packs) (left : List LeftOut) : Type 0 where

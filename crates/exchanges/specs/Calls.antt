@@ -1,7 +1,14 @@
 -- Calls and answers as values.
+use Rattle.std.specs.Prelude.{Result}
 use Rattle.exchanges.specs.declared.calls.Move.{Move}
 use Rattle.exchanges.specs.declared.calls.Move.TheVariants.{Nothing, Fetched, Stored, Compared}
 use Rattle.exchanges.specs.declared.calls.Passage.{Passage}
+use Rattle.exchanges.specs.declared.calls.Reply.{Reply}
+use Rattle.exchanges.specs.declared.refusals.Refusal.{Refusal}
+
+-- The answer to a call: a reply, or why it is refused.
+abbrev pub Answer : Type 0
+Answer = Result Reply Refusal
 
 -- Where nothing moved, unit, pack, block, address and number of words are all zero.
 abbrev pub no_passage : Passage

@@ -56,20 +56,21 @@ pub struct Report {
     pub moved: Move,
 }
 
-/// The answer to a call.
+/// What an accepted call answers.
 #[derive(Clone, Copy, PartialEq, Eq, Debug)]
-pub enum Answer {
+pub enum Reply {
     /// The word that a bus read answers.
     Word(u16),
-    /// The call was accepted, and has nothing to answer.
+    /// The call has nothing to answer.
     Done,
     /// The vector of a granted interrupt.
     Vector(u16),
     /// What a tick did.
     Ticked(Report),
-    /// The call was refused, and changed nothing.
-    Refused(Refusal),
 }
+
+/// The answer to a call: a refused one changed nothing.
+pub type Answer = Result<Reply, Refusal>;
 
 /// A call beside its answer.
 #[derive(Clone, Copy, PartialEq, Eq, Debug)]

@@ -1,6 +1,7 @@
 // Why a controller declines a call, each reason with its number.
 ghost use Rattle.std.specs.Prelude.{◌≡◌};
 ghost use Rattle.exchanges.specs.Refusals.{make_refusal_number, bus_refusal_number, grant_refusal_number, panel_refusal_number, refusal_number};
+ghost use Rattle.exchanges.specs.declared.refusals.Refusal.TheVariants.{Bus, Grant, Panel};
 
 /// Why a controller is not made.
 #[derive(Clone, Copy, PartialEq, Eq, Debug)]
@@ -54,51 +55,75 @@ pub enum Refusal {
     Panel(PanelRefusal),
 }
 
-impl MakeRefusal {
-    /// The refusal's number.
-    pub fn number(self) -> u8
-        ensures { result ≡ make_refusal_number self }
-    {
-        self as u8 // 1
+/// The refusal's number: 1.
+impl From<MakeRefusal> for u8 {
+    ghost from_gives = { λ refusal number. number ≡ make_refusal_number refusal };
+
+    fn from(refusal: MakeRefusal) -> u8 {
+        refusal as u8 // 1
     }
 }
 
-impl BusRefusal {
-    /// The refusal's number.
-    pub fn number(self) -> u8
-        ensures { result ≡ bus_refusal_number self }
-    {
-        self as u8 // from 2 to 5
+/// The refusal's number: from 2 to 5.
+impl From<BusRefusal> for u8 {
+    ghost from_gives = { λ refusal number. number ≡ bus_refusal_number refusal };
+
+    fn from(refusal: BusRefusal) -> u8 {
+        refusal as u8 // from 2 to 5
     }
 }
 
-impl GrantRefusal {
-    /// The refusal's number.
-    pub fn number(self) -> u8
-        ensures { result ≡ grant_refusal_number self }
-    {
-        self as u8 // 6
+/// The refusal's number: 6.
+impl From<GrantRefusal> for u8 {
+    ghost from_gives = { λ refusal number. number ≡ grant_refusal_number refusal };
+
+    fn from(refusal: GrantRefusal) -> u8 {
+        refusal as u8 // 6
     }
 }
 
-impl PanelRefusal {
-    /// The refusal's number.
-    pub fn number(self) -> u8
-        ensures { result ≡ panel_refusal_number self }
-    {
-        self as u8 // from 7 to 12
+/// The refusal's number: from 7 to 12.
+impl From<PanelRefusal> for u8 {
+    ghost from_gives = { λ refusal number. number ≡ panel_refusal_number refusal };
+
+    fn from(refusal: PanelRefusal) -> u8 {
+        refusal as u8 // from 7 to 12
     }
 }
 
-impl Refusal {
-    /// The refusal's number.
-    pub fn number(self) -> u8
-        ensures { result ≡ refusal_number self }
-    {
-        match self {
-            Refusal::Bus(refusal) => refusal.number(),
-            Refusal::Grant(refusal) => refusal.number(),
-            Refusal::Panel(refusal) => refusal.number(),
+/// The refusal's number.
+impl From<Refusal> for u8 {
+    ghost from_gives = { λ refusal number. number ≡ refusal_number refusal };
+
+    fn from(refusal: Refusal) -> u8 {
+        match refusal {
+            Refusal::Bus(refusal) => u8::from(refusal),
+            Refusal::Grant(refusal) => u8::from(refusal),
+            Refusal::Panel(refusal) => u8::from(refusal),
         }
+    }
+}
+
+impl From<BusRefusal> for Refusal {
+    ghost from_gives = { λ refusal r. r ≡ Bus refusal };
+
+    fn from(refusal: BusRefusal) -> Refusal {
+        Refusal::Bus(refusal)
+    }
+}
+
+impl From<GrantRefusal> for Refusal {
+    ghost from_gives = { λ refusal r. r ≡ Grant refusal };
+
+    fn from(refusal: GrantRefusal) -> Refusal {
+        Refusal::Grant(refusal)
+    }
+}
+
+impl From<PanelRefusal> for Refusal {
+    ghost from_gives = { λ refusal r. r ≡ Panel refusal };
+
+    fn from(refusal: PanelRefusal) -> Refusal {
+        Refusal::Panel(refusal)
     }
 }

@@ -1,5 +1,5 @@
 -- Where a sector lies, the numbers that name it, and the check word of its header.
-use Rattle.std.specs.Prelude.{ℕ, zero, suc, ◌+◌, ◌*◌, ◌/◌, ◌%◌, Bool, false, cond, ◌&&◌, List, [], ◌∷◌, ◌++◌, Some, None, Ok, Err, Result, ◌==◌, bit_xor, nat_lt}
+use Rattle.std.specs.Prelude.{ℕ, zero, suc, ◌+◌, ◌*◌, ◌/◌, ◌%◌, Bool, false, ◌&&◌, List, [], ◌∷◌, ◌++◌, Some, None, Ok, Err, Result, ◌==◌, bit_xor, nat_lt, if◌then◌else◌}
 use Rattle.media.specs.declared.address.AddressRefusal.{AddressRefusal}
 use Rattle.media.specs.declared.address.AddressRefusal.TheVariants.{NoSector}
 use Rattle.media.specs.declared.address.Place.{Place}
@@ -24,7 +24,7 @@ for_kind n test = elim (kind_of n) [ Some k ↦ test k | None ↦ false ]
 
 -- What is asked for, or that there is no such sector.
 abbrev pub or_no_sector : {A : Type 0} → Bool → A → Result A AddressRefusal
-or_no_sector there x = cond there (Ok x) (Err NoSector)
+or_no_sector there x = if there then Ok x else Err NoSector
 
 -- Blocks are numbered along a track, then over the heads, then over the cylinders.
 abbrev pub block_at : Place → ℕ
@@ -60,7 +60,7 @@ place_of_header n w = or_no_sector (for_kind n (λ k. on_pack k (place_in_header
 
 -- One bit into a CRC: a shift right, and 0o120001 where the bit shifted out differs from the incoming one.
 abbrev pub crc_step : ℕ → ℕ → ℕ
-crc_step c b = cond (c % 2 == b) (c / 2) (bit_xor (c / 2) 0o120001)
+crc_step c b = if c % 2 == b then c / 2 else bit_xor (c / 2) 0o120001
 
 -- A list of bits into a CRC, one after the other.
 unfoldable pub crc_over : ℕ → List ℕ → ℕ

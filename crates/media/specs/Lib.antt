@@ -7,3 +7,4 @@ pub mod Marks
 pub mod Memory
 pub mod Same
 pub mod Shelf
+pub mod Texts

@@ -1,10 +1,10 @@
 -- What is wrong with a sector.
-use Rattle.std.specs.Prelude.{ℕ, ◌+◌, ◌/◌, ◌%◌, Bool, false, cond, not, ◌&&◌, ◌==◌}
+use Rattle.std.specs.Prelude.{ℕ, ◌+◌, ◌/◌, ◌%◌, Bool, false, not, ◌&&◌, ◌==◌, if◌then◌else◌}
 use Rattle.media.specs.declared.marks.Mark.{Mark}
 
 -- A mark is 1 for an unreadable header plus 2 for damaged data.
 abbrev pub mark_number : Mark → ℕ
-mark_number m = cond m.unreadable 1 0 + cond m.damaged 2 0
+mark_number m = (if m.unreadable then 1 else 0) + (if m.damaged then 2 else 0)
 
 -- The mark with a number, read modulo 4.
 abbrev pub mark_of : ℕ → Mark

@@ -1,5 +1,5 @@
 -- What a shelf of packs means, and what each call on it answers and leaves.
-use Rattle.std.specs.Prelude.{◌≡◌, ℕ, ◌≤◌, Bool, true, false, cond, ◌&&◌, List, length, is_some, Some, None, Ok, Err, Option, Result, ◌==◌, nat_lt}
+use Rattle.std.specs.Prelude.{◌≡◌, ℕ, ◌≤◌, Bool, true, false, ◌&&◌, List, length, is_some, Some, None, Ok, Err, Option, Result, ◌==◌, nat_lt, if◌then◌else◌}
 use Rattle.std.specs.List.{slice_get}
 use Rattle.std.specs.Option.{option_map, unwrap_or, ok_or}
 use Rattle.media.specs.Kinds.{blocks_of}
@@ -36,6 +36,11 @@ shelf_refusal_number BufferLength = 13
 shelf_refusal_number NoSector = 14
 shelf_refusal_number NotTaking = 15
 
+-- A buffer that has not 128 words is refused with 13, then a block that a pack of a kind lacks, or one of a missing pack, with 14.
+abbrev pub sector_check : Option Kind → ℕ → List ℕ → Result (Unit {0}) ShelfRefusal
+sector_check kind block buffer =
+    if length buffer == 128 then if unwrap_or (option_map (λ k. nat_lt block (blocks_of k)) kind) false then Ok tt else Err NoSector else Err BufferLength
+
 -- The kind of a pack; 9 where there is no such pack.
 abbrev pub kind_reply : Packs → ℕ → Result Kind ShelfRefusal
 kind_reply shelf pack = ok_or (slice_get shelf.kinds pack) NoPack
@@ -43,21 +48,21 @@ kind_reply shelf pack = ok_or (slice_get shelf.kinds pack) NoPack
 -- A fetch answers the sector's mark; 13 for a buffer that has not 128 words, then 14 where there is no such sector.
 abbrev pub fetch_reply : Packs → ℕ → ℕ → List ℕ → Result Mark ShelfRefusal
 fetch_reply shelf pack block buffer =
-    cond (length buffer == 128) (ok_or (option_map (λ s. s.mark) (shelf.sector pack block)) NoSector) (Err BufferLength)
+    if length buffer == 128 then ok_or (option_map (λ s. s.mark) (shelf.sector pack block)) NoSector else Err BufferLength
 
 -- A fetch leaves the sector's words in the buffer; a refused one leaves the buffer.
 abbrev pub fetch_buffer : Packs → ℕ → ℕ → List ℕ → List ℕ
 fetch_buffer shelf pack block buffer =
-    cond (length buffer == 128) (unwrap_or (option_map (λ s. s.words) (shelf.sector pack block)) buffer) buffer
+    if length buffer == 128 then unwrap_or (option_map (λ s. s.words) (shelf.sector pack block)) buffer else buffer
 
 -- Whether a sector takes; 14 where there is none, 15 where it does not.
 abbrev pub taking : Option Sector → Result (Unit {0}) ShelfRefusal
 taking None = Err NoSector
-taking (Some s) = cond s.takes (Ok tt) (Err NotTaking)
+taking (Some s) = if s.takes then Ok tt else Err NotTaking
 
 -- A store goes through; 13 for a buffer that has not 128 words, then 14 where there is no such sector, then 15 where it does not take.
 abbrev pub store_reply : Packs → ℕ → ℕ → List ℕ → Result (Unit {0}) ShelfRefusal
-store_reply shelf pack block buffer = cond (length buffer == 128) (taking (shelf.sector pack block)) (Err BufferLength)
+store_reply shelf pack block buffer = if length buffer == 128 then taking (shelf.sector pack block) else Err BufferLength
 
 -- Whether a sector that is there takes.
 abbrev pub takes_in : Packs → ℕ → ℕ → Bool
@@ -76,7 +81,7 @@ abbrev pub stored : Packs → ℕ → ℕ → List ℕ → (ℕ → ℕ → Bool
 stored shelf pack block buffer open_takes =
     record {
       kinds = shelf.kinds;
-      sector = λ p b. cond (p == pack && b == block) (option_map (rewritten buffer) (shelf.sector p b)) (option_map (kept (open_takes p b)) (shelf.sector p b));
+      sector = λ p b. if p == pack && b == block then option_map (rewritten buffer) (shelf.sector p b) else option_map (kept (open_takes p b)) (shelf.sector p b);
     }
 
 -- A refused call leaves the shelf.
@@ -92,4 +97,4 @@ after_store shelf pack block buffer open_takes =
 -- A shelf made of the kinds of its packs and of what stands at each place, of which it has the blocks of those kinds.
 abbrev pub shelf_of : List Kind → (ℕ → ℕ → Sector) → Packs
 shelf_of kinds content =
-    record { kinds = kinds; sector = λ pack block. cond (has_block kinds pack block) (Some (content pack block)) None }
+    record { kinds = kinds; sector = λ pack block. if has_block kinds pack block then Some (content pack block) else None }

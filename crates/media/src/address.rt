@@ -1,8 +1,11 @@
 // Where a sector lies on a pack, and the numbers that name it.
 ghost use Rattle.std.specs.Prelude.{◌≡◌, IfOk, Ok};
-ghost use Rattle.media.specs.Address.{address_refusal_number, on_pack, for_kind, block_reply, header_reply, place_of_block, place_of_header, crc_step, crc_over, word_bits, check_of};
+ghost use Rattle.media.specs.Address.{address_refusal_number, on_pack, for_kind, or_no_sector, block_reply, header_reply, place_of_block, place_of_header, crc_step, crc_over, word_bits, check_of};
+ghost use Rattle.media.specs.declared.address.AddressRefusal.TheVariants.{NoSector};
 
-use crate::kinds::{HEADS, Kind, SECTORS};
+use crate::kinds::{HEADS, Kind, SECTORS, UnknownKind};
+use std::error::Error;
+use std::fmt;
 
 /// What is XORed into a check word for a bit that differs.
 const POLYNOMIAL: u16 = 0o120001;
@@ -21,12 +24,21 @@ pub enum AddressRefusal {
     NoSector = 14,
 }
 
-impl AddressRefusal {
-    /// The number of the refusal.
-    pub fn number(self) -> u8
-        ensures { result ≡ address_refusal_number self }
-    {
-        self as u8
+/// The number of the refusal.
+impl From<AddressRefusal> for u8 {
+    ghost from_gives = { λ refusal number. number ≡ address_refusal_number refusal };
+
+    fn from(refusal: AddressRefusal) -> u8 {
+        refusal as u8
+    }
+}
+
+/// A pack of no kind has no sector.
+impl From<UnknownKind> for AddressRefusal {
+    ghost from_gives = { λ _ refusal. refusal ≡ NoSector };
+
+    fn from(_: UnknownKind) -> AddressRefusal {
+        AddressRefusal::NoSector
     }
 }
 
@@ -36,11 +48,8 @@ impl Place {
         ensures reply { result ≡ block_reply kind self }
         ensures back { IfOk result (λ b. place_of_block kind b ≡ Ok self) }
     {
-        if self.is_on(kind) {
-            Ok((self.cylinder * HEADS + self.head as u16) * SECTORS + self.sector as u16)
-        } else {
-            Err(AddressRefusal::NoSector)
-        }
+        self.check(kind)?;
+        Ok((self.cylinder * HEADS + self.head as u16) * SECTORS + self.sector as u16)
     }
 
     /// The header word, on a pack of the kind with this number.
@@ -48,11 +57,8 @@ impl Place {
         ensures reply { result ≡ header_reply kind self }
         ensures back { IfOk result (λ w. place_of_header kind w ≡ Ok self) }
     {
-        if self.is_on(kind) {
-            Ok(self.cylinder << 7 | (self.head as u16) << 6 | self.sector as u16)
-        } else {
-            Err(AddressRefusal::NoSector)
-        }
+        self.check(kind)?;
+        Ok(self.cylinder << 7 | (self.head as u16) << 6 | self.sector as u16)
     }
 
     /// The place of a block, on a pack of the kind with this number.
@@ -60,17 +66,15 @@ impl Place {
         ensures reply { result ≡ place_of_block kind block }
         ensures back { IfOk result (λ p. block_reply kind p ≡ Ok block) }
     {
-        match Kind::from_number(kind) {
-            Some(kind) if block < kind.blocks() => {
-                let track = block / SECTORS;
-                Ok(Place {
-                    cylinder: track / HEADS,
-                    head: (track % HEADS) as u8,
-                    sector: (block % SECTORS) as u8,
-                })
-            }
-            _ => Err(AddressRefusal::NoSector),
+        if block >= Kind::try_from(kind)?.blocks() {
+            return Err(AddressRefusal::NoSector);
         }
+        let track = block / SECTORS;
+        Ok(Place {
+            cylinder: track / HEADS,
+            head: (track % HEADS) as u8,
+            sector: (block % SECTORS) as u8,
+        })
     }
 
     /// The place that a header word names, on a pack of the kind with this number.
@@ -83,27 +87,55 @@ impl Place {
             head: (header >> 6 & 1) as u8,
             sector: (header & 0o77) as u8,
         };
-        if place.is_on(kind) {
-            Ok(place)
+        place.check(kind)?;
+        Ok(place)
+    }
+
+    // Refuses a place that a pack of the kind with this number lacks.
+    fn check(self, kind: u8) -> Result<(), AddressRefusal>
+        ensures { result ≡ or_no_sector (for_kind kind (λ k. on_pack k self)) tt }
+    {
+        let kind = Kind::try_from(kind)?;
+        if self.cylinder < kind.cylinders()
+            && (self.head as u16) < HEADS
+            && (self.sector as u16) < SECTORS
+        {
+            Ok(())
         } else {
             Err(AddressRefusal::NoSector)
         }
     }
+}
 
-    /// Whether a pack of the kind with this number has the place.
-    fn is_on(self, kind: u8) -> bool
-        ensures { result ≡ for_kind kind (λ k. on_pack k self) }
-    {
-        match Kind::from_number(kind) {
-            Some(kind) => {
-                self.cylinder < kind.cylinders()
-                    && (self.head as u16) < HEADS
-                    && (self.sector as u16) < SECTORS
-            }
-            None => false,
-        }
+impl fmt::Display for Place {
+    ghost use Rattle.std.specs.Prelude.{Some};
+    ghost use Rattle.media.specs.Texts.{place_text};
+
+    ghost output = { λ x. Some (place_text x) };
+
+    fn fmt<W: fmt::Write>(&self, f: &mut fmt::Formatter<W>) -> fmt::Result {
+        let Place {
+            cylinder,
+            head,
+            sector,
+        } = *self;
+        write!(f, "cylinder {cylinder}, head {head}, sector {sector}")
     }
 }
+
+impl fmt::Display for AddressRefusal {
+    ghost use Rattle.std.specs.Prelude.{Some};
+    ghost use Rattle.media.specs.Texts.{address_refusal_text};
+
+    ghost output = { λ x. Some (address_refusal_text x) };
+
+    fn fmt<W: fmt::Write>(&self, f: &mut fmt::Formatter<W>) -> fmt::Result {
+        let number = u8::from(*self);
+        write!(f, "refused {number}: there is no such sector")
+    }
+}
+
+impl Error for AddressRefusal {}
 
 /// The check word of a header word: a CRC over its bits and those of a zero word, bit 0 first.
 pub fn check_word(header: u16) -> u16

@@ -9,12 +9,12 @@ pub enum MemoryRefusal {
     NoWord = 4,
 }
 
-impl MemoryRefusal {
-    /// 3 for an odd address, 4 for one that has no word.
-    pub fn number(self) -> u8
-        ensures { result ≡ memory_refusal_number self }
-    {
-        self as u8
+/// 3 for an odd address, 4 for one that has no word.
+impl From<MemoryRefusal> for u8 {
+    ghost from_gives = { λ refusal number. number ≡ memory_refusal_number refusal };
+
+    fn from(refusal: MemoryRefusal) -> u8 {
+        refusal as u8
     }
 }
 

@@ -1,5 +1,5 @@
 // Whether two packs are the same.
-ghost use Rattle.std.specs.Prelude.{◌≡◌, true, IfOk, Ok, Decides};
+ghost use Rattle.std.specs.Prelude.{◌≡◌, ◌↔◌, true, IsTrue, IfOk, Ok};
 ghost use Rattle.media.specs.Same.{SamePacks, words_at, words_agree, same_reply};
 ghost use Rattle.media.specs.Shelf.{has_block};
 
@@ -13,7 +13,7 @@ pub fn same<L: Shelf, R: Shelf>(
     right_pack: u8,
 ) -> Result<bool, ShelfRefusal>
     ensures reply { result ≡ same_reply (L.Shelf.packs left.now) left_pack (R.Shelf.packs right.now) right_pack }
-    ensures exact { IfOk result (λ answer. Decides answer (SamePacks (L.Shelf.packs left.now) left_pack (R.Shelf.packs right.now) right_pack)) }
+    ensures exact { IfOk result (λ answer. IsTrue answer ↔ SamePacks (L.Shelf.packs left.now) left_pack (R.Shelf.packs right.now) right_pack) }
 {
     let kind = left.kind(left_pack)?;
     if right.kind(right_pack)? != kind {

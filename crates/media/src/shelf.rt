@@ -1,6 +1,6 @@
 // The interface of a shelf of packs.
 ghost use Rattle.std.specs.Prelude.{◌≡◌, length};
-ghost use Rattle.media.specs.Shelf.{Packs, Lawful, shelf_refusal_number, kind_reply, fetch_reply, fetch_buffer, store_reply, after_store, takes_in};
+ghost use Rattle.media.specs.Shelf.{Packs, Lawful, shelf_refusal_number, sector_check, kind_reply, fetch_reply, fetch_buffer, store_reply, after_store, takes_in};
 
 use crate::kinds::Kind;
 use crate::marks::Mark;
@@ -23,12 +23,25 @@ pub enum ShelfRefusal {
     NotTaking = 15,
 }
 
-impl ShelfRefusal {
-    /// The refusal's number.
-    pub fn number(self) -> u8
-        ensures { result ≡ shelf_refusal_number self }
-    {
-        self as u8
+/// The refusal's number.
+impl From<ShelfRefusal> for u8 {
+    ghost from_gives = { λ refusal number. number ≡ shelf_refusal_number refusal };
+
+    fn from(refusal: ShelfRefusal) -> u8 {
+        refusal as u8
+    }
+}
+
+/// Refuses a buffer that has not 128 words, then a block that a pack of this kind, or a pack that is missing, has not.
+pub fn check_sector(kind: Option<Kind>, block: u16, buffer: &[u16]) -> Result<(), ShelfRefusal>
+    ensures { result ≡ sector_check kind block buffer.now }
+{
+    if buffer.len() != SECTOR_WORDS {
+        Err(ShelfRefusal::BufferLength)
+    } else if kind.is_some_and(|kind| block < kind.blocks()) {
+        Ok(())
+    } else {
+        Err(ShelfRefusal::NoSector)
     }
 }
 
@@ -61,7 +74,7 @@ pub trait Shelf {
 
 impl fmt::Display for ShelfRefusal {
     fn fmt<W: fmt::Write>(&self, f: &mut fmt::Formatter<W>) -> fmt::Result {
-        let number = self.number();
+        let number = u8::from(*self);
         let what = match self {
             ShelfRefusal::NoPack => "there is no such pack",
             ShelfRefusal::BufferLength => "the buffer has not 128 words",

@@ -1,5 +1,5 @@
 -- The bus side of a controller: reads and writes, INIT, and interrupt grants.
-use Rattle.std.specs.Prelude.{ℕ, ◌%◌, ◌^◌, cond, Some, None, Ok, Err, Option, Result, ◌==◌, nat_lt}
+use Rattle.std.specs.Prelude.{ℕ, ◌%◌, ◌^◌, Some, None, Ok, Err, Option, Result, ◌==◌, nat_lt, if◌then◌else◌}
 use Rattle.std.specs.Option.{ok_or, option_map}
 use Rattle.media.specs.Memory.{after_write}
 use Rattle.rl11.specs.Machine.{Machine, with_state, with_contents}
@@ -12,7 +12,7 @@ use Rattle.rl11.specs.declared.registers.Register.{Register}
 
 -- An address of more than 18 bits is refused with 2, an odd one with 3.
 abbrev pub address_reply : ℕ → Result (Unit {0}) BusRefusal
-address_reply a = cond (nat_lt a (2 ^ 18)) (cond (a % 2 == 1) (Err OddAddress) (Ok tt)) (Err BeyondBus)
+address_reply a = if nat_lt a (2 ^ 18) then (if a % 2 == 1 then Err OddAddress else Ok tt) else Err BeyondBus
 
 -- What an address answers, if the bus has it.
 abbrev pub if_on_bus : {A : Type 0} → ℕ → Result A BusRefusal → Result A BusRefusal
@@ -33,7 +33,7 @@ after_bus_read a m = elim (register_at a) [ Some g ↦ with_state (after_registe
 
 -- A write of a register is refused with 5 while a function works; elsewhere a write is refused with 4 where memory has no word.
 abbrev pub taken_there : Option Register → ℕ → Machine → Result (Unit {0}) BusRefusal
-taken_there (Some g) a m = cond (is_working m.state) (Err Working) (Ok tt)
+taken_there (Some g) a m = if is_working m.state then Err Working else Ok tt
 taken_there None a m = ok_or (option_map (λ _. tt) (m.contents a)) NothingThere
 
 -- What a bus write answers.

@@ -1,5 +1,5 @@
 -- A drive: what a press or a tick makes of it, how a seek starts, and its status word.
-use Rattle.std.specs.Prelude.{ℕ, ◌+◌, ◌-◌, ◌*◌, ◌/◌, ◌^◌, min, Bool, true, false, cond, not, ◌&&◌, ◌||◌, is_some, Some, None, Option, ◌==◌, nat_lt}
+use Rattle.std.specs.Prelude.{ℕ, ◌+◌, ◌-◌, ◌*◌, ◌/◌, ◌^◌, min, Bool, true, false, not, ◌&&◌, ◌||◌, is_some, Some, None, Option, ◌==◌, nat_lt, if◌then◌else◌}
 use Rattle.media.specs.Kinds.{cylinders_of}
 use Rattle.media.specs.declared.kinds.Kind.{Kind}
 use Rattle.media.specs.declared.kinds.Kind.TheVariants.{Rl01, Rl02}
@@ -96,15 +96,15 @@ ticked_in Empty d = d
 ticked_in SpinUp d = in_state Brush d
 ticked_in Brush d = heads_loaded d
 ticked_in LoadHeads d = in_state LockOn d
-ticked_in (Seek n) d = in_state (cond (nat_lt 1 n) (Seek (n - 1)) LockOn) d
+ticked_in (Seek n) d = in_state (if nat_lt 1 n then Seek (n - 1) else LockOn) d
 ticked_in LockOn d = d
 ticked_in UnloadHeads d = in_state SpinDown d
 ticked_in SpinDown d = turned Empty None d
 
 -- What a press or a tick makes of a drive: a load press puts a pack into an empty one and spins it up, an unload press stops one that runs, a protect press turns the switch over.
 abbrev pub after_event : Event → Drive → Drive
-after_event (Load p) d = cond (is_empty d.state) (turned SpinUp (Some p) d) d
-after_event Unload d = cond (runs d.state) (in_state UnloadHeads d) d
+after_event (Load p) d = if is_empty d.state then turned SpinUp (Some p) d else d
+after_event Unload d = if runs d.state then in_state UnloadHeads d else d
 after_event Protect d = switched d
 after_event Tick d = ticked_in d.state d
 
@@ -119,7 +119,7 @@ last_cylinder (Some k) = cylinders_of k - 1
 
 -- Where a seek comes to rest: heads stop at cylinder 0 or the last.
 abbrev pub resting_place : SeekOrder → Drive → ℕ
-resting_place o d = cond o.inward (min (d.cylinder + o.difference) (last_cylinder d.kind)) (d.cylinder - o.difference)
+resting_place o d = if o.inward then min (d.cylinder + o.difference) (last_cylinder d.kind) else d.cylinder - o.difference
 
 -- How many cylinders lie between two.
 abbrev pub crossed : ℕ → ℕ → ℕ

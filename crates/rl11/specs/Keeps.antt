@@ -1,12 +1,12 @@
 -- What the drives always keep.
-use Rattle.std.specs.Prelude.{ℕ, Bool, true, cond, not, ◌&&◌, List, [], ◌∷◌, is_some, Some, None, Option}
+use Rattle.std.specs.Prelude.{ℕ, Bool, true, not, ◌&&◌, List, [], ◌∷◌, is_some, Some, None, Option, if◌then◌else◌}
 use Rattle.rl11.specs.Drive.{is_empty}
 use Rattle.rl11.specs.State.{is_loaded}
 use Rattle.rl11.specs.declared.drive.Drive.{Drive}
 
 -- A drive has a pack exactly outside state 0.
 abbrev pub is_coupled : Drive → Bool
-is_coupled d = cond (is_empty d.state) (not (is_some d.pack)) (is_some d.pack)
+is_coupled d = if is_empty d.state then not (is_some d.pack) else is_some d.pack
 
 -- Every drive has a pack exactly outside state 0.
 abbrev pub all_coupled : List Drive → Bool

@@ -1,5 +1,5 @@
 -- A controller without its type parameters: its state, and what its shelf and its memory mean.
-use Rattle.std.specs.Prelude.{ℕ, cond, List, [], ◌∷◌, Ok, Err, Result, nat_lt}
+use Rattle.std.specs.Prelude.{ℕ, List, [], ◌∷◌, Ok, Err, Result, nat_lt, if◌then◌else◌}
 use Rattle.media.specs.Memory.{Words}
 use Rattle.media.specs.Shelf.{Packs}
 use Rattle.rl11.specs.declared.controller.Controller.{Controller}
@@ -21,7 +21,7 @@ machine_of shelf_meaning memory_meaning c =
 -- Kinds are 0 for no drive, 1 and 2; a controller with another is refused with 1.
 abbrev pub kinds_reply : List ℕ → Result (Unit {0}) MakeRefusal
 kinds_reply [] = Ok tt
-kinds_reply (k ∷ ks) = cond (nat_lt 2 k) (Err NoSuchKind) (kinds_reply ks)
+kinds_reply (k ∷ ks) = if nat_lt 2 k then Err NoSuchKind else kinds_reply ks
 
 -- The machine with another state of its controller.
 abbrev pub with_state : State → Machine → Machine

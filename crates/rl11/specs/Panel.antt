@@ -1,5 +1,5 @@
 -- Presses on the panels.
-use Rattle.std.specs.Prelude.{ℕ, Bool, false, cond, not, List, is_some, Some, None, Ok, Err, Option, Result, ◌==◌, slice_index_or, slice_set}
+use Rattle.std.specs.Prelude.{ℕ, Bool, false, not, List, is_some, Some, None, Ok, Err, Option, Result, ◌==◌, slice_index_or, slice_set, if◌then◌else◌}
 use Rattle.std.specs.List.{slice_get}
 use Rattle.media.specs.Kinds.{kind_number}
 use Rattle.media.specs.declared.kinds.Kind.{Kind}
@@ -22,19 +22,15 @@ same_kind (Some j) (Some k) = kind_number j == kind_number k
 -- Whether a load press is accepted, with a pack of the offered kind or with none: 7 where there is no such drive, 8 where it is not empty, 9 where there is no such pack, 10 where it is of another kind, 11 where it is in another drive.
 abbrev pub load_check : ℕ → ℕ → Option Kind → List Drive → Result (Unit {0}) PanelRefusal
 load_check u p offered ds =
-    cond (not (is_there (drive_at ds u))) (Err NoDrive)
-    (cond (not (is_empty (drive_at ds u).state)) (Err NotEmpty)
-    (cond (not (is_some offered)) (Err NoPack)
-    (cond (not (same_kind offered (drive_at ds u).kind)) (Err OtherKind)
-    (cond (is_loaded p ds) (Err InAnotherDrive) (Ok tt)))))
+    if not (is_there (drive_at ds u)) then Err NoDrive else if not (is_empty (drive_at ds u).state) then Err NotEmpty else if not (is_some offered) then Err NoPack else if not (same_kind offered (drive_at ds u).kind) then Err OtherKind else if is_loaded p ds then Err InAnotherDrive else Ok tt
 
 -- Whether an unload press is accepted: 7 where there is no such drive, 12 where it does not run.
 abbrev pub unload_check : ℕ → List Drive → Result (Unit {0}) PanelRefusal
-unload_check u ds = cond (not (is_there (drive_at ds u))) (Err NoDrive) (cond (runs (drive_at ds u).state) (Ok tt) (Err NotRunning))
+unload_check u ds = if not (is_there (drive_at ds u)) then Err NoDrive else if runs (drive_at ds u).state then Ok tt else Err NotRunning
 
 -- Whether a protect press is accepted: 7 where there is no such drive.
 abbrev pub protect_check : ℕ → List Drive → Result (Unit {0}) PanelRefusal
-protect_check u ds = cond (is_there (drive_at ds u)) (Ok tt) (Err NoDrive)
+protect_check u ds = if is_there (drive_at ds u) then Ok tt else Err NoDrive
 
 -- The controller with other drives.
 abbrev pub with_drives : List Drive → State → State
@@ -42,7 +38,7 @@ with_drives ds s = record { registers = s.registers; drives = ds; angle = s.angl
 
 -- What happens to a unit's drive leaves the others.
 abbrev pub after_event_at : ℕ → Event → State → State
-after_event_at u e s = cond (is_unit u) (with_drives (slice_set s.drives u (after_event e (slice_index_or s.drives u no_drive))) s) s
+after_event_at u e s = if is_unit u then with_drives (slice_set s.drives u (after_event e (slice_index_or s.drives u no_drive))) s else s
 
 -- An accepted press happens to its drive; a refused one changes nothing.
 abbrev pub pressed : Result (Unit {0}) PanelRefusal → ℕ → Event → State → State

@@ -1,5 +1,5 @@
 -- The registers, and the words that the bus reads and writes there.
-use Rattle.std.specs.Prelude.{ℕ, ◌+◌, ◌*◌, ◌/◌, ◌%◌, ◌^◌, Bool, false, cond, not, ◌&&◌, ◌||◌, Some, None, Option, ◌==◌}
+use Rattle.std.specs.Prelude.{ℕ, ◌+◌, ◌*◌, ◌/◌, ◌%◌, ◌^◌, Bool, false, not, ◌&&◌, ◌||◌, Some, None, Option, ◌==◌, if◌then◌else◌}
 use Rattle.rl11.specs.Words.{bit_of, worth, with_low_word, with_extension}
 use Rattle.rl11.specs.declared.registers.ControlStatus.{ControlStatus}
 use Rattle.rl11.specs.declared.registers.Faults.{Faults}
@@ -13,8 +13,7 @@ use Rattle.rl11.specs.declared.registers.Register.TheVariants.{ControlStatus as 
 -- The four registers lie at 0o774400, 0o774402, 0o774404 and 0o774406.
 abbrev pub register_at : ℕ → Option Register
 register_at a =
-    cond (a == 0o774400) (Some CS)
-    (cond (a == 0o774402) (Some BusAddress) (cond (a == 0o774404) (Some DiskAddress) (cond (a == 0o774406) (Some Multipurpose) None)))
+    if a == 0o774400 then Some CS else if a == 0o774402 then Some BusAddress else if a == 0o774404 then Some DiskAddress else if a == 0o774406 then Some Multipurpose else None
 
 -- The functions are numbered from 0 to 7.
 abbrev pub function_number : Function → ℕ
@@ -30,13 +29,7 @@ function_number ReadWithoutHeaderCheck = 7
 -- The function with a number below 8.
 abbrev pub function_numbered : ℕ → Function
 function_numbered n =
-    cond (n == 0) NoOp
-    (cond (n == 1) WriteCheck
-    (cond (n == 2) GetStatus
-    (cond (n == 3) Seek
-    (cond (n == 4) ReadHeader
-    (cond (n == 5) WriteData
-    (cond (n == 6) ReadData ReadWithoutHeaderCheck))))))
+    if n == 0 then NoOp else if n == 1 then WriteCheck else if n == 2 then GetStatus else if n == 3 then Seek else if n == 4 then ReadHeader else if n == 5 then WriteData else if n == 6 then ReadData else ReadWithoutHeaderCheck
 
 -- Whether anything went wrong, in the controller or in the drive: any of bits 10 to 14.
 abbrev pub any_error : ControlStatus → Bool
@@ -178,12 +171,12 @@ abbrev pub control_set : ControlStatus → Registers → Registers
 control_set c r =
     record {
       command = record { function = c.function; unit = c.unit; enable = c.enable };
-      faults = cond c.ready r.faults no_faults;
+      faults = if c.ready then r.faults else no_faults;
       address = with_extension r.address c.extension;
       disk_address = r.disk_address;
       word_count = r.word_count;
       silo = r.silo;
-      working = cond c.ready r.working (Some 0);
+      working = if c.ready then r.working else Some 0;
       interrupt = interrupt_after c r;
     }
 

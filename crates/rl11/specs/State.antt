@@ -1,5 +1,5 @@
 -- The controller without its shelf and its memory: registers, drives and the angle of the packs.
-use Rattle.std.specs.Prelude.{ℕ, ◌%◌, Bool, false, cond, not, ◌&&◌, ◌||◌, List, [], ◌∷◌, map, is_some, None, Ok, Err, Option, Result, nat_lt, slice_index_or}
+use Rattle.std.specs.Prelude.{ℕ, ◌%◌, Bool, false, not, ◌&&◌, ◌||◌, List, [], ◌∷◌, map, is_some, None, Ok, Err, Option, Result, nat_lt, slice_index_or, if◌then◌else◌}
 use Rattle.media.specs.declared.kinds.Kind.{Kind}
 use Rattle.rl11.specs.Drive.{fresh_drive, is_there, holds, is_locked, has_error}
 use Rattle.rl11.specs.Registers.{control_word, fresh_registers, with_disk_address, with_word_count, with_interrupt, after_address_write, after_silo_read, after_control_write}
@@ -27,7 +27,7 @@ no_drive = fresh_drive None
 
 -- The drive of a unit; a missing one where there is no such unit.
 abbrev pub drive_at : List Drive → ℕ → Drive
-drive_at ds u = cond (is_unit u) (slice_index_or ds u no_drive) no_drive
+drive_at ds u = if is_unit u then slice_index_or ds u no_drive else no_drive
 
 -- Whether a pack is in any of the drives.
 abbrev pub is_loaded : ℕ → List Drive → Bool
@@ -91,7 +91,7 @@ after_reset s = with_registers fresh_registers s
 
 -- A waiting interrupt is granted with vector 0o160; 6 where none is waiting.
 abbrev pub vector_reply : State → Result ℕ GrantRefusal
-vector_reply s = cond s.registers.interrupt (Ok 0o160) (Err NothingWaiting)
+vector_reply s = if s.registers.interrupt then Ok 0o160 else Err NothingWaiting
 
 -- No interrupt is waiting any more.
 abbrev pub after_withdrawal : State → State

@@ -1,5 +1,5 @@
 -- The bits of a word, and of a bus address.
-use Rattle.std.specs.Prelude.{ℕ, ◌+◌, ◌*◌, ◌/◌, ◌%◌, ◌^◌, Bool, cond, ◌==◌}
+use Rattle.std.specs.Prelude.{ℕ, ◌+◌, ◌*◌, ◌/◌, ◌%◌, ◌^◌, Bool, ◌==◌, if◌then◌else◌}
 
 -- Whether a bit of a word is set.
 abbrev pub bit_of : ℕ → ℕ → Bool
@@ -7,7 +7,7 @@ bit_of k w = w / 2 ^ k % 2 == 1
 
 -- What a bit adds to a word where it is set.
 abbrev pub worth : ℕ → Bool → ℕ
-worth k b = cond b 1 0 * 2 ^ k
+worth k b = (if b then 1 else 0) * 2 ^ k
 
 -- The low 16 bits of a bus address.
 abbrev pub low_word : ℕ → ℕ

@@ -1,5 +1,5 @@
 -- The answers of a controller as text.
-use Rattle.std.specs.Prelude.{ℕ, cond, List, ◌++◌, codes, decimal}
+use Rattle.std.specs.Prelude.{ℕ, List, ◌++◌, codes, decimal, if◌then◌else◌}
 use Rattle.exchanges.specs.Refusals.{refusal_number}
 use Rattle.exchanges.specs.declared.calls.Answer.{Answer}
 use Rattle.exchanges.specs.declared.calls.Answer.TheVariants.{Word, Done, Vector, Ticked, Refused}
@@ -26,7 +26,7 @@ move_text (Compared p) = codes "compared" ++ passage_text p
 
 -- What a tick did: 1 where a function ended, else 0, and what moved.
 abbrev pub report_text : Report → List ℕ
-report_text r = codes "ended " ++ (decimal (cond r.ended 1 0) ++ (codes " moved " ++ move_text r.moved))
+report_text r = codes "ended " ++ (decimal (if r.ended then 1 else 0) ++ (codes " moved " ++ move_text r.moved))
 
 -- What is told of an answer.
 abbrev pub answer_text : Answer → List ℕ

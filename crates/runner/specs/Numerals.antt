@@ -1,5 +1,5 @@
 -- Octal numbers as text.
-use Rattle.std.specs.Prelude.{ℕ, ◌/◌, ◌%◌, cond, List, [], ◌++◌, decimal, ◌==◌}
+use Rattle.std.specs.Prelude.{ℕ, ◌/◌, ◌%◌, List, [], ◌++◌, decimal, ◌==◌, if◌then◌else◌}
 
 -- The octal digit of a number that has this weight.
 abbrev pub digit_at : ℕ → ℕ → List ℕ
@@ -11,7 +11,7 @@ six_digits n = digit_at 32768 n ++ (digit_at 4096 n ++ (digit_at 512 n ++ (digit
 
 -- The last octal digit of a number; nothing where the number is 0.
 abbrev pub high_digit : ℕ → List ℕ
-high_digit n = cond (n == 0) [] (decimal (n % 8))
+high_digit n = if n == 0 then [] else decimal (n % 8)
 
 -- A number of 16 bits in octal, without zeros in front.
 abbrev pub plain_octal : ℕ → List ℕ

@@ -1,5 +1,5 @@
 -- What a script runs on, and what it tells where it cannot be run.
-use Rattle.std.specs.Prelude.{ℕ, ◌-◌, ◌*◌, cond, List, [], ◌∷◌, ◌++◌, map, length, replicate, is_ok, Some, None, Ok, Err, codes, decimal, Option, Result, slice_index}
+use Rattle.std.specs.Prelude.{ℕ, ◌-◌, ◌*◌, List, [], ◌∷◌, ◌++◌, map, length, replicate, is_ok, Some, None, Ok, Err, codes, decimal, Option, Result, slice_index, if◌then◌else◌}
 use Rattle.std.specs.List.{slice_get}
 use Rattle.std.specs.Option.{option_map, unwrap_or}
 use Rattle.media.specs.Kinds.{kind_of, blocks_of}
@@ -53,7 +53,7 @@ started_text b s m (Err e) = refused_drives b.drives e
 -- A memory with words put into it, or the first of them for which there is no place.
 abbrev pub poked_memory : Words → List PokeLine → Result Words PokeLine
 poked_memory m [] = Ok m
-poked_memory m (p ∷ ps) = cond (is_ok (write_reply m p.address)) (poked_memory (after_write m p.address p.word) ps) (Err p)
+poked_memory m (p ∷ ps) = if is_ok (write_reply m p.address) then poked_memory (after_write m p.address p.word) ps else Err p
 
 -- A controller is made where each word for memory has its place.
 abbrev pub poked_text : Bench → Packs → Result Words PokeLine → List ℕ

@@ -1,5 +1,5 @@
 -- What follows the first word of a line.
-use Rattle.std.specs.Prelude.{ℕ, cond, List, [], ◌∷◌, Ok, Err, Result}
+use Rattle.std.specs.Prelude.{ℕ, List, [], ◌∷◌, Ok, Err, Result, if◌then◌else◌}
 use Rattle.std.specs.Str.{bytes_eq}
 use Rattle.script.specs.Numbers.{number_of}
 use Rattle.script.specs.declared.faults.Fault.{Fault}
@@ -14,7 +14,7 @@ argument b limit (w ∷ ws) = number_of b limit w
 -- The first of some words is spelt so.
 abbrev pub wanted : List ℕ → List (List ℕ) → Result (Unit {0}) Fault
 wanted spelling [] = Err MissingWord
-wanted spelling (w ∷ ws) = cond (bytes_eq w spelling) (Ok tt) (Err UnknownWord)
+wanted spelling (w ∷ ws) = if bytes_eq w spelling then Ok tt else Err UnknownWord
 
 -- No word may follow.
 abbrev pub closed : {X : Type 0} → X → List (List ℕ) → Result X Fault

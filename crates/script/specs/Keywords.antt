@@ -1,5 +1,5 @@
 -- The first word of a line.
-use Rattle.std.specs.Prelude.{ℕ, cond, List, [], ◌∷◌, Some, None, codes, Option}
+use Rattle.std.specs.Prelude.{ℕ, List, [], ◌∷◌, Some, None, codes, Option, if◌then◌else◌}
 use Rattle.std.specs.Str.{bytes_eq}
 use Rattle.script.specs.declared.keywords.Keyword.{Keyword}
 use Rattle.script.specs.declared.keywords.Keyword.TheVariants.{Drives, Shelf, Card, Memory, Poke, Read, Write, Init, Grant, Load, Unload, Protect, Sector, Kind}
@@ -7,7 +7,7 @@ use Rattle.script.specs.declared.keywords.Keyword.TheVariants.{Drives, Shelf, Ca
 -- A word found in a list of spellings.
 abbrev pub spelt : List (List ℕ × Keyword) → List ℕ → Option Keyword
 spelt [] w = None
-spelt (s ∷ ss) w = cond (bytes_eq w s.0) (Some s.1) (spelt ss w)
+spelt (s ∷ ss) w = if bytes_eq w s.0 then Some s.1 else spelt ss w
 
 -- The keywords and how they are spelt.
 abbrev pub spellings : List (List ℕ × Keyword)

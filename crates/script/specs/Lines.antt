@@ -1,5 +1,5 @@
 -- A line of a script.
-use Rattle.std.specs.Prelude.{ℕ, cond, List, [], ◌∷◌, Some, None, Ok, Err, codes, Option, Result}
+use Rattle.std.specs.Prelude.{ℕ, List, [], ◌∷◌, Some, None, Ok, Err, codes, Option, Result, if◌then◌else◌}
 use Rattle.std.specs.Str.{bytes_eq}
 use Rattle.exchanges.specs.declared.calls.Call.TheVariants as call
 use Rattle.script.specs.Arguments.{closed, and_then}
@@ -29,7 +29,7 @@ as_step r = and_then r (λ s. Ok (line.Step s))
 -- Memory is set up as a board or as a stack; or else it is looked at from an octal address of 32 bits on.
 abbrev pub memory_line : List (List ℕ) → Result Line Fault
 memory_line [] = Err MissingWord
-memory_line (w ∷ ws) = cond (bytes_eq w (codes "board")) (as_setup (board_setup ws)) (cond (bytes_eq w (codes "stack")) (as_setup (stack_setup ws)) (and_then (number_of Octal 4294967295 w) (λ a. as_step (memory_step a ws))))
+memory_line (w ∷ ws) = if bytes_eq w (codes "board") then as_setup (board_setup ws) else if bytes_eq w (codes "stack") then as_setup (stack_setup ws) else and_then (number_of Octal 4294967295 w) (λ a. as_step (memory_step a ws))
 
 -- What a line says, by its first word.
 abbrev pub keyword_line : Keyword → List (List ℕ) → Result Line Fault

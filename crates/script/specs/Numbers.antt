@@ -1,5 +1,5 @@
 -- Numbers of a script.
-use Rattle.std.specs.Prelude.{ℕ, ◌+◌, ◌-◌, ◌*◌, cond, ◌||◌, List, [], ◌∷◌, Some, None, Ok, Err, Option, Result, nat_le, nat_lt}
+use Rattle.std.specs.Prelude.{ℕ, ◌+◌, ◌-◌, ◌*◌, ◌||◌, List, [], ◌∷◌, Some, None, Ok, Err, Option, Result, nat_le, nat_lt, if◌then◌else◌}
 use Rattle.script.specs.declared.faults.Fault.{Fault}
 use Rattle.script.specs.declared.faults.Fault.TheVariants.{NotANumber, TooLarge}
 use Rattle.script.specs.declared.numbers.Base.{Base}
@@ -12,11 +12,11 @@ radix_of Decimal = 10
 
 -- A digit is a character from `0` on, of which a base has as many as it says.
 abbrev pub digit_of : Base → ℕ → Option ℕ
-digit_of b c = cond (nat_lt c 48 || nat_le (radix_of b) (c - 48)) None (Some (c - 48))
+digit_of b c = if nat_lt c 48 || nat_le (radix_of b) (c - 48) then None else Some (c - 48)
 
 -- A number is too large where it is above the limit.
 abbrev pub held_to : ℕ → ℕ → Result ℕ Fault
-held_to limit n = cond (nat_le n limit) (Ok n) (Err TooLarge)
+held_to limit n = if nat_le n limit then Ok n else Err TooLarge
 
 -- A digit more, or no number.
 abbrev pub with_digit : Option ℕ → (ℕ → Result ℕ Fault) → Result ℕ Fault

@@ -1,5 +1,5 @@
 -- A whole script.
-use Rattle.std.specs.Prelude.{◌≡◌, ℕ, ◌+◌, min, Bool, true, false, cond, List, [], ◌∷◌, ◌++◌, map, is_some, Some, None, Ok, Err, vec_items, string_bytes, Option, Result}
+use Rattle.std.specs.Prelude.{◌≡◌, ℕ, ◌+◌, min, Bool, true, false, List, [], ◌∷◌, ◌++◌, map, is_some, Some, None, Ok, Err, vec_items, string_bytes, Option, Result, if◌then◌else◌}
 use Rattle.std.proofs.Math.Utf8.{encodes}
 use Rattle.std.specs.Option.{unwrap_or}
 use Rattle.script.specs.Arguments.{and_then}
@@ -78,15 +78,15 @@ settled p = record { drives = unwrap_or p.drives (0 ∷ 0 ∷ 0 ∷ 0 ∷ []); s
 
 -- The drives are set up once.
 abbrev pub with_drives : List ℕ → Plan → Result Plan Fault
-with_drives ks p = cond (is_some p.drives) (Err SetupTwice) (Ok (record { drives = Some ks; shelf = p.shelf; memory = p.memory; cards = p.cards; pokes = p.pokes; steps = p.steps }))
+with_drives ks p = if is_some p.drives then Err SetupTwice else Ok (record { drives = Some ks; shelf = p.shelf; memory = p.memory; cards = p.cards; pokes = p.pokes; steps = p.steps })
 
 -- The shelf is set up once.
 abbrev pub with_shelf : ShelfSetup → Plan → Result Plan Fault
-with_shelf s p = cond (is_some p.shelf) (Err SetupTwice) (Ok (record { drives = p.drives; shelf = Some s; memory = p.memory; cards = p.cards; pokes = p.pokes; steps = p.steps }))
+with_shelf s p = if is_some p.shelf then Err SetupTwice else Ok (record { drives = p.drives; shelf = Some s; memory = p.memory; cards = p.cards; pokes = p.pokes; steps = p.steps })
 
 -- The memory is set up once.
 abbrev pub with_memory : MemorySetup → Plan → Result Plan Fault
-with_memory m p = cond (is_some p.memory) (Err SetupTwice) (Ok (record { drives = p.drives; shelf = p.shelf; memory = Some m; cards = p.cards; pokes = p.pokes; steps = p.steps }))
+with_memory m p = if is_some p.memory then Err SetupTwice else Ok (record { drives = p.drives; shelf = p.shelf; memory = Some m; cards = p.cards; pokes = p.pokes; steps = p.steps })
 
 -- A card more.
 abbrev pub with_card : ℕ → Card → Plan → Plan
@@ -130,7 +130,7 @@ told_of n s ws = record { line = n; step = s; echo = encodes (joined ws) }
 -- What a line of these words adds; no set-up line may follow a step.
 abbrev pub with_line : ℕ → List (List ℕ) → Line → Plan → Result Plan Fault
 with_line n ws line.Blank p = Ok p
-with_line n ws (line.Setup s) p = cond (is_begun p.steps) (Err LateSetup) (set_up n ws s p)
+with_line n ws (line.Setup s) p = if is_begun p.steps then Err LateSetup else set_up n ws s p
 with_line n ws (line.Step s) p = Ok (with_step (told_of n s ws) p)
 
 -- What a line adds, if it can be read.

@@ -1,5 +1,5 @@
 -- How a script sets a bench up.
-use Rattle.std.specs.Prelude.{ℕ, zero, suc, cond, List, [], ◌∷◌, replicate, Ok, Err, codes, Result}
+use Rattle.std.specs.Prelude.{ℕ, zero, suc, List, [], ◌∷◌, replicate, Ok, Err, codes, Result, if◌then◌else◌}
 use Rattle.std.specs.Str.{bytes_eq}
 use Rattle.script.specs.Arguments.{argument, wanted, closed, and_then}
 use Rattle.script.specs.Numbers.{number_of}
@@ -36,7 +36,7 @@ cards_setup = with_kinds 8 roomy
 -- A shelf is flat or of cards.
 abbrev pub shelf_setup : List (List ℕ) → Result Setup Fault
 shelf_setup [] = Err MissingWord
-shelf_setup (w ∷ ws) = cond (bytes_eq w (codes "flat")) (flat_setup ws) (cond (bytes_eq w (codes "cards")) (cards_setup ws) (Err UnknownWord))
+shelf_setup (w ∷ ws) = if bytes_eq w (codes "flat") then flat_setup ws else if bytes_eq w (codes "cards") then cards_setup ws else Err UnknownWord
 
 -- The words that a line gives to so many places, octal numbers of 16 bits; the other places have zeros.
 abbrev pub filled : ℕ → List (List ℕ) → Result (List ℕ) Fault

@@ -1,5 +1,5 @@
 -- The words of a line.
-use Rattle.std.specs.Prelude.{ℕ, suc, Bool, true, false, cond, not, ◌||◌, List, [], ◌∷◌, Some, None, Option, ◌==◌}
+use Rattle.std.specs.Prelude.{ℕ, suc, Bool, true, false, not, ◌||◌, List, [], ◌∷◌, Some, None, Option, ◌==◌, if◌then◌else◌}
 use Rattle.std.specs.Bool.{beq}
 use Rattle.script.specs.declared.words.Words.{Words}
 
@@ -10,7 +10,7 @@ is_blank c = c == 32 || (c == 9 || c == 13)
 -- How many bytes at the front are blank, or how many are not.
 abbrev pub run_length : Bool → List ℕ → ℕ
 run_length blank [] = 0
-run_length blank (c ∷ cs) = cond (beq (is_blank c) blank) (suc (run_length blank cs)) 0
+run_length blank (c ∷ cs) = if beq (is_blank c) blank then suc (run_length blank cs) else 0
 
 -- Whether a list of bytes begins with a byte that is not blank.
 abbrev pub begins_word : List ℕ → Bool
@@ -25,12 +25,12 @@ lengthened c (w ∷ ws) = (c ∷ w) ∷ ws
 -- The words of a line are its longest runs of bytes that are not blank.
 abbrev pub words_of : List ℕ → List (List ℕ)
 words_of [] = []
-words_of (c ∷ cs) = cond (is_blank c) (words_of cs) (cond (begins_word cs) (lengthened c (words_of cs)) ((c ∷ []) ∷ words_of cs))
+words_of (c ∷ cs) = if is_blank c then words_of cs else if begins_word cs then lengthened c (words_of cs) else (c ∷ []) ∷ words_of cs
 
 -- A line that begins with `#` has no words.
 abbrev pub line_words : List ℕ → List (List ℕ)
 line_words [] = []
-line_words (c ∷ cs) = cond (c == 35) [] (words_of (c ∷ cs))
+line_words (c ∷ cs) = if c == 35 then [] else words_of (c ∷ cs)
 
 -- The words of a line that are yet to be read.
 abbrev pub words_left : Words → List (List ℕ)

@@ -1,5 +1,5 @@
 -- What a card shelf means: sectors that stand on cards.
-use Rattle.std.specs.Prelude.{ℕ, ◌%◌, Bool, true, cond, ◌&&◌, List, [], ◌∷◌, take, replicate, is_some, Some, None, Ok, Err, Option, Result, ◌==◌}
+use Rattle.std.specs.Prelude.{ℕ, ◌%◌, Bool, true, ◌&&◌, List, [], ◌∷◌, take, replicate, is_some, Some, None, Ok, Err, Option, Result, ◌==◌, if◌then◌else◌}
 use Rattle.media.specs.Kinds.{kind_of}
 use Rattle.media.specs.Marks.{mark_of, clean}
 use Rattle.media.specs.Shelf.{Packs, Sector, shelf_of, store_reply}
@@ -33,7 +33,7 @@ is_free c = c.pack == 255
 -- The first card that passes a test.
 abbrev pub first_card : (Card → Bool) → List Card → Option Card
 first_card test [] = None
-first_card test (c ∷ cs) = cond (test c) (Some c) (first_card test cs)
+first_card test (c ∷ cs) = if test c then Some c else first_card test cs
 
 -- A sector with a card has its words and mark, and takes. One without has zero words, is clean, and takes where there is room.
 abbrev pub on_card : Bool → Option Card → Sector
@@ -55,7 +55,7 @@ card_meaning shelf = card_packs shelf.kinds shelf.cards.now
 -- The first card that passes a test, changed.
 abbrev pub change_first : (Card → Bool) → (Card → Card) → List Card → List Card
 change_first test change [] = []
-change_first test change (c ∷ cs) = cond (test c) (change c ∷ cs) (c ∷ change_first test change cs)
+change_first test change (c ∷ cs) = if test c then change c ∷ cs else c ∷ change_first test change cs
 
 -- The card with these parts.
 abbrev pub card_of : ℕ → ℕ → ℕ → List ℕ → Card
@@ -72,7 +72,7 @@ claimed pack block buffer _ = card_of pack block 0 buffer
 -- A store overwrites the sector's card; where it has none, it claims the first that is free.
 abbrev pub put_card : Bool → List Card → ℕ → ℕ → List ℕ → List Card
 put_card has_card deck pack block buffer =
-    cond has_card (change_first (is_of pack block) (overwritten buffer) deck) (change_first is_free (claimed pack block buffer) deck)
+    if has_card then change_first (is_of pack block) (overwritten buffer) deck else change_first is_free (claimed pack block buffer) deck
 
 -- The cards that a store leaves by its reply; a refused one leaves them as they are.
 abbrev pub deck_left : Result (Unit {0}) ShelfRefusal → List Card → ℕ → ℕ → List ℕ → List Card

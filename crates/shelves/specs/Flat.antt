@@ -1,5 +1,5 @@
 -- What a flat shelf means: one pack in a slice of words, in the order of the blocks.
-use Rattle.std.specs.Prelude.{ℕ, ◌+◌, ◌*◌, true, cond, List, [], ◌∷◌, ◌++◌, length, take, drop, Some, None, Ok, Err, Option, Result, ◌==◌}
+use Rattle.std.specs.Prelude.{ℕ, ◌+◌, ◌*◌, true, List, [], ◌∷◌, ◌++◌, length, take, drop, Some, None, Ok, Err, Option, Result, ◌==◌, if◌then◌else◌}
 use Rattle.media.specs.Kinds.{kind_of, blocks_of}
 use Rattle.media.specs.Marks.{clean}
 use Rattle.media.specs.Shelf.{Packs, Sector, shelf_of, store_reply}
@@ -10,7 +10,7 @@ use Rattle.shelves.specs.declared.flat.FlatShelf.{FlatShelf}
 -- The one pack, where the slice has just its words.
 abbrev pub whole_pack : List ℕ → Option Kind → List Kind
 whole_pack slice None = []
-whole_pack slice (Some k) = cond (length slice == blocks_of k * 128) (k ∷ []) []
+whole_pack slice (Some k) = if length slice == blocks_of k * 128 then k ∷ [] else []
 
 -- The packs of a flat shelf: one of the kind with this number, or none.
 abbrev pub flat_kinds : ℕ → List ℕ → List Kind

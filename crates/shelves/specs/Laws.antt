@@ -1,5 +1,5 @@
 -- Proofs that the two makes have what every shelf has. There is nothing here to believe.
-use Rattle.std.specs.Prelude.{ℕ, zero, suc, ◌≤◌, Bool, true, false, cond, List, [], ◌∷◌, length, take, Some, None, Option}
+use Rattle.std.specs.Prelude.{ℕ, zero, suc, ◌≤◌, Bool, true, false, List, [], ◌∷◌, length, take, Some, None, Option, if◌then◌else◌}
 use Rattle.std.proofs.Common.{zero-le, suc-le-suc, lit≤}
 use Rattle.media.specs.Kinds.{kind_of}
 use Rattle.media.specs.Laws.{shelf_lawful}
@@ -9,7 +9,7 @@ use Rattle.shelves.specs.Cards.{and_more, leading_kinds, card_kinds, card_sector
 use Rattle.shelves.specs.Flat.{whole_pack, flat_kinds, flat_sector, flat_packs}
 use Rattle.shelves.specs.declared.cards.Card.{Card}
 
-at_most_one : (whole : Bool) (k : Kind) → length (cond whole (k ∷ []) []) ≤ 8
+at_most_one : (whole : Bool) (k : Kind) → length (if whole then k ∷ [] else []) ≤ 8
 at_most_one true k = lit≤ tt
 at_most_one false k = lit≤ tt
 

@@ -1,5 +1,5 @@
 -- Where the code finds a sector: places that the private functions of the makes answer, and that no promise of a shelf rests on.
-use Rattle.std.specs.Prelude.{ℕ, ◌+◌, ◌*◌, ◌<◌, Bool, cond, List, [], ◌∷◌, Some, None, Option}
+use Rattle.std.specs.Prelude.{ℕ, ◌+◌, ◌*◌, ◌<◌, Bool, List, [], ◌∷◌, Some, None, Option, if◌then◌else◌}
 use Rattle.std.specs.Option.{option_map}
 use Rattle.media.specs.Shelf.{has_block}
 use Rattle.shelves.specs.Cards.{is_of, is_free}
@@ -10,12 +10,12 @@ use Rattle.shelves.specs.declared.cards.Slot.TheVariants.{Own, Free, Full}
 
 -- Where the words of a sector that is there begin.
 abbrev pub sector_start : ℕ → List ℕ → ℕ → ℕ → Option ℕ
-sector_start number slice pack block = cond (has_block (flat_kinds number slice) pack block) (Some (block * 128)) None
+sector_start number slice pack block = if has_block (flat_kinds number slice) pack block then Some (block * 128) else None
 
 -- The place of the first card that passes a test, counted from 0.
 abbrev pub first_place : (Card → Bool) → List Card → Option ℕ
 first_place test [] = None
-first_place test (c ∷ cs) = cond (test c) (Some 0) (option_map (λ i. i + 1) (first_place test cs))
+first_place test (c ∷ cs) = if test c then Some 0 else option_map (λ i. i + 1) (first_place test cs)
 
 -- The first of two places, if either is known.
 abbrev pub or_else : Option ℕ → Option ℕ → Option ℕ

@@ -3,9 +3,9 @@ use Rattle.std.proofs.Common.{◌<◌, rules}
 use Rattle.media.proofs.Headers.{packed}
 use Rattle.media.proofs.address.Place.header.Goals as goal
 
-pub returns-then-is_on : goal.returns-then-is_on
-returns-then-is_on c =
-    let on = c.if-is_on.ensures in
+pub returns : goal.returns
+returns c =
+    let on = c.in_ok-check.ensures in
     let p : c.args.self.cylinder < 512 = search rules in
     let q : c.args.self.head < 2 = search rules in
     let t : c.args.self.sector < 64 = search rules in
