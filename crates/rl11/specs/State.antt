@@ -1,5 +1,6 @@
 -- The controller without its shelf and its memory: registers, drives and the angle of the packs.
 use Rattle.std.specs.Prelude.{ℕ, ◌%◌, Bool, false, not, ◌&&◌, ◌||◌, List, [], ◌∷◌, map, is_some, None, Ok, Err, Option, Result, nat_lt, slice_index_or, if◌then◌else◌}
+use Rattle.std.specs.List.{list_any}
 use Rattle.media.specs.declared.kinds.Kind.{Kind}
 use Rattle.rl11.specs.Drive.{fresh_drive, is_there, holds, is_locked, has_error}
 use Rattle.rl11.specs.Registers.{control_word, fresh_registers, with_disk_address, with_word_count, with_interrupt, after_address_write, after_silo_read, after_control_write}
@@ -31,8 +32,7 @@ drive_at ds u = if is_unit u then slice_index_or ds u no_drive else no_drive
 
 -- Whether a pack is in any of the drives.
 abbrev pub is_loaded : ℕ → List Drive → Bool
-is_loaded p [] = false
-is_loaded p (d ∷ ds) = holds p d || is_loaded p ds
+is_loaded p ds = list_any (holds p) ds
 
 -- The drive that the control and status register selects.
 abbrev pub selected : State → Drive

@@ -21,10 +21,10 @@ impl<S: Shelf, M: BusMemory> Controller<S, M> {
         check_address(address)?;
         match Register::at(address) {
             Some(register) => Ok(self.core.state.read_register(register)),
-            None => match self.memory.read(address) {
-                Ok(word) => Ok(word),
-                Err(_) => Err(BusRefusal::NothingThere),
-            },
+            None => self
+                .memory
+                .read(address)
+                .map_err(|_| BusRefusal::NothingThere),
         }
     }
 
@@ -40,10 +40,10 @@ impl<S: Shelf, M: BusMemory> Controller<S, M> {
                 self.core.state.write_register(register, word);
                 Ok(())
             }
-            None => match self.memory.write(address, word) {
-                Ok(()) => Ok(()),
-                Err(_) => Err(BusRefusal::NothingThere),
-            },
+            None => self
+                .memory
+                .write(address, word)
+                .map_err(|_| BusRefusal::NothingThere),
         }
     }
 

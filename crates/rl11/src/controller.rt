@@ -1,7 +1,7 @@
 // The controller: made over a shelf and a memory, and taken apart again.
 ghost use Rattle.std.specs.Prelude.{◌≡◌, map, Ok, Err, MatchResult};
 ghost use Rattle.media.specs.Kinds.{kind_of};
-ghost use Rattle.rl11.specs.Machine.{kinds_reply};
+ghost use Rattle.rl11.specs.Machine.{drive_kind_reply, kinds_reply};
 ghost use Rattle.rl11.specs.State.{fresh_state};
 
 use crate::keeping::Core;
@@ -34,8 +34,8 @@ impl<S: Shelf, M: BusMemory> Controller<S, M> {
             (λ made. (kinds_reply kinds ≡ Ok tt) × (made.core.state ≡ fresh_state (map kind_of kinds)) × (made.shelf ≡ shelf) × (made.memory ≡ memory))
             (λ unmade. (kinds_reply kinds ≡ Err unmade.refusal) × (unmade.shelf ≡ shelf) × (unmade.memory ≡ memory)) }
     {
-        match check_kinds(&kinds) {
-            Ok(()) => Ok(Controller::fresh(kinds_numbered(kinds), shelf, memory)),
+        match kinds.try_map(drive_kind) {
+            Ok(kinds) => Ok(Controller::fresh(kinds, shelf, memory)),
             Err(refusal) => Err(Unmade {
                 refusal,
                 shelf,
@@ -73,26 +73,14 @@ impl<S: Shelf, M: BusMemory> Controller<S, M> {
     }
 }
 
-// The kinds with these numbers.
-fn kinds_numbered(kinds: [u8; UNITS]) -> [Option<Kind>; UNITS]
-    ensures { result ≡ map kind_of kinds }
+// What a number says of a unit: 0 that it has no drive, 1 and 2 the kind of its drive, and any other number is refused.
+fn drive_kind(number: u8) -> Result<Option<Kind>, MakeRefusal>
+    ensures { result ≡ drive_kind_reply number }
 {
-    [
-        Kind::from_number(kinds[0]),
-        Kind::from_number(kinds[1]),
-        Kind::from_number(kinds[2]),
-        Kind::from_number(kinds[3]),
-    ]
-}
-
-// Refuses kinds above 2.
-fn check_kinds(kinds: &[u8]) -> Result<(), MakeRefusal>
-    ensures { result ≡ kinds_reply kinds.now }
-{
-    for kind in kinds {
-        if *kind > 2 {
-            return Err(MakeRefusal::NoSuchKind);
-        }
+    match number {
+        0 => Ok(None),
+        _ => Kind::try_from(number)
+            .map(Some)
+            .map_err(|_| MakeRefusal::NoSuchKind),
     }
-    Ok(())
 }

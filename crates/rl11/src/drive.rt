@@ -149,10 +149,7 @@ impl Drive {
     pub(crate) fn holds(&self, pack: u8) -> bool
         ensures { result ≡ holds pack self.now }
     {
-        match self.pack {
-            Some(held) => held == pack,
-            None => false,
-        }
+        self.pack == Some(pack)
     }
 
     /// Whether no pack is in the drive.

@@ -18,22 +18,28 @@ impl State {
     fn drive(&self, unit: u8) -> Drive
         ensures { result ≡ drive_at self.now.drives unit }
     {
-        let unit = unit as usize;
-        if unit < UNITS {
-            self.drives[unit]
-        } else {
-            Drive::new(None)
-        }
+        self.drives
+            .get(usize::from(unit))
+            .copied()
+            .unwrap_or(Drive::new(None))
     }
 
     // What happens to one drive.
     fn act(&mut self, unit: u8, event: Event)
         ensures { self.new ≡ after_event_at unit event self.old }
     {
-        let unit = unit as usize;
+        let unit = usize::from(unit);
+        // By index, since the proof with `get_mut` does not close: after it nothing is known of a slice's elements.
         if unit < UNITS {
             self.drives[unit].act(event);
         }
+    }
+
+    // Whether a pack is in any of the drives.
+    fn is_loaded(&self, pack: u8) -> bool
+        ensures { result ≡ is_loaded pack self.now.drives }
+    {
+        self.drives.iter().any(|drive| drive.holds(pack))
     }
 
     // Whether a load press is accepted, with a pack of the offered kind, or with none.
@@ -41,19 +47,15 @@ impl State {
         ensures { result ≡ load_check unit pack offered self.now.drives }
     {
         let drive = self.drive(unit);
-        let Some(kind) = drive.kind else {
-            return Err(PanelRefusal::NoDrive);
-        };
+        let kind = drive.kind.ok_or(PanelRefusal::NoDrive)?;
         if !drive.is_empty() {
             return Err(PanelRefusal::NotEmpty);
         }
-        let Some(offered) = offered else {
-            return Err(PanelRefusal::NoPack);
-        };
+        let offered = offered.ok_or(PanelRefusal::NoPack)?;
         if offered != kind {
             return Err(PanelRefusal::OtherKind);
         }
-        if is_loaded(&self.drives, pack) {
+        if self.is_loaded(pack) {
             return Err(PanelRefusal::InAnotherDrive);
         }
         Ok(())
@@ -136,16 +138,4 @@ impl<S: Shelf, M: BusMemory> Controller<S, M> {
     {
         self.core.state.protect(unit)
     }
-}
-
-// Whether a pack is in any of the drives.
-fn is_loaded(drives: &[Drive], pack: u8) -> bool
-    ensures { result ≡ is_loaded pack drives.now }
-{
-    for drive in drives {
-        if drive.holds(pack) {
-            return true;
-        }
-    }
-    false
 }

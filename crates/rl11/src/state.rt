@@ -30,12 +30,7 @@ impl State {
     {
         State {
             registers: Registers::fresh(),
-            drives: [
-                Drive::new(kinds[0]),
-                Drive::new(kinds[1]),
-                Drive::new(kinds[2]),
-                Drive::new(kinds[3]),
-            ],
+            drives: kinds.map(Drive::new),
             angle: 0,
         }
     }
