@@ -9,7 +9,7 @@ use media::kinds::Kind;
 const SEEK_TICKS: u16 = 24;
 
 /// What a drive is doing.
-#[derive(Clone, Copy)]
+#[derive(Clone, Copy, PartialEq, Eq, Debug)]
 pub enum DriveState {
     Empty,
     SpinUp,
@@ -23,7 +23,7 @@ pub enum DriveState {
 }
 
 /// What happens to a drive: a press on its panel, or a tick.
-#[derive(Clone, Copy)]
+#[derive(Clone, Copy, PartialEq, Eq, Debug)]
 pub enum Event {
     Load(u8),
     Unload,
@@ -32,7 +32,7 @@ pub enum Event {
 }
 
 /// The errors of a drive, which stand until they are cleared.
-#[derive(Clone, Copy)]
+#[derive(Clone, Copy, PartialEq, Eq, Debug)]
 pub struct DriveErrors {
     pub volume_check: bool,
     pub write_gate: bool,
@@ -40,7 +40,7 @@ pub struct DriveErrors {
 }
 
 /// A unit: a drive, or the place of one that is missing.
-#[derive(Clone, Copy)]
+#[derive(Clone, Copy, PartialEq, Eq, Debug)]
 pub struct Drive {
     /// The kind of the drive; none where it is missing.
     pub(crate) kind: Option<Kind>,
@@ -156,14 +156,14 @@ impl Drive {
     pub(crate) fn is_empty(&self) -> bool
         ensures { result ≡ is_empty self.now.state }
     {
-        matches!(self.state, DriveState::Empty)
+        self.state == DriveState::Empty
     }
 
     /// Whether the heads rest on a cylinder, so that sectors can pass.
     pub(crate) fn is_locked(&self) -> bool
         ensures { result ≡ is_locked self.now.state }
     {
-        matches!(self.state, DriveState::LockOn)
+        self.state == DriveState::LockOn
     }
 
     /// Whether an unload press would stop the drive.
@@ -180,7 +180,7 @@ impl Drive {
     pub(crate) fn has_error(&self) -> bool
         ensures { result ≡ has_error self.now }
     {
-        self.errors.volume_check || self.errors.write_gate || self.errors.write_data
+        self.errors != DriveErrors::NONE
     }
 
     /// Clears the errors.
@@ -211,17 +211,14 @@ impl Drive {
     fn last_cylinder(&self) -> u16
         ensures { result ≡ last_cylinder self.now.kind }
     {
-        match self.kind {
-            Some(kind) => kind.cylinders() - 1,
-            None => 0,
-        }
+        self.kind.map_or(0, |kind| kind.cylinders() - 1)
     }
 
     // Whether it is a drive for RL02 packs.
     fn is_rl02(&self) -> bool
         ensures { result ≡ is_rl02 self.now.kind }
     {
-        matches!(self.kind, Some(Kind::Rl02))
+        self.kind == Some(Kind::Rl02)
     }
 
     // Whether the heads are over the pack.
@@ -235,7 +232,7 @@ impl Drive {
     fn is_brushing(&self) -> bool
         ensures { result ≡ is_brushing self.now.state }
     {
-        matches!(self.state, DriveState::Brush)
+        self.state == DriveState::Brush
     }
 
     /// The status word.

@@ -5,14 +5,14 @@ ghost use Rattle.rl11.specs.Orders.{head_for, head_number, is_seek, seek_order, 
 use crate::words::{has_bit, low_byte};
 
 /// A head of a drive.
-#[derive(Clone, Copy)]
+#[derive(Clone, Copy, PartialEq, Eq, Debug)]
 pub enum Head {
     Upper = 0,
     Lower = 1,
 }
 
 /// A seek, as the disk address register orders it.
-#[derive(Clone, Copy)]
+#[derive(Clone, Copy, PartialEq, Eq, Debug)]
 pub struct SeekOrder {
     /// Towards higher cylinders.
     pub inward: bool,
@@ -22,7 +22,7 @@ pub struct SeekOrder {
 }
 
 /// A report of a drive's status, as the disk address register orders it.
-#[derive(Clone, Copy)]
+#[derive(Clone, Copy, PartialEq, Eq, Debug)]
 pub enum StatusOrder {
     /// Tell the status.
     Tell,
@@ -51,15 +51,11 @@ impl SeekOrder {
     pub(crate) fn from_disk_address(word: u16) -> Option<SeekOrder>
         ensures { result ≡ seek_order word }
     {
-        if is_seek(word) {
-            Some(SeekOrder {
-                inward: has_bit(word, 2),
-                head: Head::lower_if(has_bit(word, 4)),
-                difference: word >> 7,
-            })
-        } else {
-            None
-        }
+        is_seek(word).then(|| SeekOrder {
+            inward: has_bit(word, 2),
+            head: Head::lower_if(has_bit(word, 4)),
+            difference: word >> 7,
+        })
     }
 }
 

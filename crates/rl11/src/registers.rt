@@ -5,7 +5,7 @@ ghost use Rattle.rl11.specs.Registers.{register_at, function_number, function_nu
 use crate::words::{has_bit, with_extension, with_low_word};
 
 /// What a bus master sees at the controller's four addresses.
-#[derive(Clone, Copy)]
+#[derive(Clone, Copy, PartialEq, Eq, Debug)]
 pub enum Register {
     /// CS, at 0o774400.
     ControlStatus,
@@ -18,7 +18,7 @@ pub enum Register {
 }
 
 /// A function of the controller.
-#[derive(Clone, Copy)]
+#[derive(Clone, Copy, PartialEq, Eq, Debug)]
 pub enum Function {
     NoOp = 0,
     WriteCheck = 1,
@@ -31,7 +31,7 @@ pub enum Function {
 }
 
 /// What went wrong in the last function.
-#[derive(Clone, Copy)]
+#[derive(Clone, Copy, PartialEq, Eq, Debug)]
 pub struct Faults {
     /// The function did not complete.
     pub incomplete: bool,
@@ -44,7 +44,7 @@ pub struct Faults {
 }
 
 /// The fields of the control and status register.
-#[derive(Clone, Copy)]
+#[derive(Clone, Copy, PartialEq, Eq, Debug)]
 pub struct ControlStatus {
     /// The selected drive has locked on.
     pub drive_ready: bool,
@@ -61,7 +61,7 @@ pub struct ControlStatus {
 }
 
 /// What the last write of the control and status register ordered.
-#[derive(Clone, Copy)]
+#[derive(Clone, Copy, PartialEq, Eq, Debug)]
 pub struct Command {
     pub(crate) function: Function,
     pub(crate) unit: u8,
@@ -70,7 +70,7 @@ pub struct Command {
 }
 
 /// The three words that reads of the multipurpose register answer one after another.
-#[derive(Clone, Copy)]
+#[derive(Clone, Copy, PartialEq, Eq, Debug)]
 pub struct Silo {
     pub(crate) first: u16,
     pub(crate) second: u16,
@@ -78,7 +78,7 @@ pub struct Silo {
 }
 
 /// All that INIT resets.
-#[derive(Clone, Copy)]
+#[derive(Clone, Copy, PartialEq, Eq, Debug)]
 pub struct Registers {
     pub(crate) command: Command,
     pub(crate) faults: Faults,

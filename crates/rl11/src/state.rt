@@ -15,7 +15,7 @@ pub const UNITS: usize = 4;
 const VECTOR: u16 = 0o160;
 
 /// The controller without its shelf and its memory.
-#[derive(Clone, Copy)]
+#[derive(Clone, Copy, PartialEq, Eq, Debug)]
 pub struct State {
     pub(crate) registers: Registers,
     pub(crate) drives: [Drive; UNITS],
