@@ -1,5 +1,5 @@
 -- The registers, and the words that the bus reads and writes there.
-use Rattle.std.specs.Prelude.{ℕ, ◌+◌, ◌*◌, ◌/◌, ◌%◌, ◌^◌, Bool, false, not, ◌&&◌, ◌||◌, Some, None, Option, ◌==◌, if◌then◌else◌}
+use Rattle.std.specs.Prelude.{◌≡◌, ℕ, ◌<◌, ◌+◌, ◌*◌, ◌/◌, ◌%◌, ◌^◌, Bool, false, not, ◌&&◌, ◌||◌, Some, None, Option, ◌==◌, if◌then◌else◌}
 use Rattle.rl11.specs.Words.{bit_of, worth, with_low_word, with_extension}
 use Rattle.rl11.specs.declared.registers.ControlStatus.{ControlStatus}
 use Rattle.rl11.specs.declared.registers.Faults.{Faults}
@@ -65,6 +65,16 @@ control_fields w =
       faults = record { incomplete = bit_of 10 w; check = bit_of 11 w; no_header = bit_of 12 w; no_memory = bit_of 13 w };
       drive_error = bit_of 14 w;
     }
+
+-- The word has these fields at their bits, and shows them again if unit and extension have two bits.
+pub record IsControlWord (c : ControlStatus) (w : ℕ) : Type 0 where
+  pub packed : w ≡ control_word c
+  pub back : c.extension < 4 → c.unit < 4 → control_fields w ≡ c
+
+-- These are the fields of the word, and make it again but for bit 15, which the others decide.
+pub record HasControlFields (w : ℕ) (c : ControlStatus) : Type 0 where
+  pub fields : c ≡ control_fields w
+  pub back : control_word c % 2 ^ 15 ≡ w % 2 ^ 15
 
 -- Nothing went wrong.
 abbrev pub no_faults : Faults

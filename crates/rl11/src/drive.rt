@@ -54,6 +54,7 @@ pub struct Drive {
 }
 
 impl DriveState {
+    // A named method, since the number leaves out the ticks of a seek.
     /// The state's number, from 0 to 7.
     pub(crate) fn number(self) -> u16
         ensures { result ≡ state_number self }
@@ -244,7 +245,7 @@ impl Drive {
             | (self.errors.write_gate as u16) << 10
             | (self.errors.volume_check as u16) << 9
             | (self.is_rl02() as u16) << 7
-            | self.head.number() << 6
+            | u16::from(self.head) << 6
             | (self.heads_out() as u16) << 4
             | (!self.is_brushing() as u16) << 3
             | self.state.number()

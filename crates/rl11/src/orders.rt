@@ -30,23 +30,27 @@ pub enum StatusOrder {
     ClearAndTell,
 }
 
+/// 0 for the upper head, 1 for the lower one.
+impl From<Head> for u16 {
+    ghost from_gives = { λ head number. number ≡ head_number head };
+
+    fn from(head: Head) -> u16 {
+        head as u16
+    }
+}
+
 impl Head {
+    // A named method, which says what the flag means; `Head::from(true)` would not.
     /// The lower head or the upper one.
     pub(crate) fn lower_if(lower: bool) -> Head
         ensures { result ≡ head_for lower }
     {
         if lower { Head::Lower } else { Head::Upper }
     }
-
-    /// The head's number, 0 or 1.
-    pub(crate) fn number(self) -> u16
-        ensures { result ≡ head_number self }
-    {
-        self as u16
-    }
 }
 
 impl SeekOrder {
+    // A named method, which says what the word is; it answers an option, as no reason is wanted where there is none.
     /// The seek in a disk address; none unless its bit 0 is set and its bits 1, 3, 5 and 6 are clear.
     pub(crate) fn from_disk_address(word: u16) -> Option<SeekOrder>
         ensures { result ≡ seek_order word }

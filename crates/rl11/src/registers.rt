@@ -1,6 +1,6 @@
 // The controller's registers, and the words that the bus reads and writes there.
-ghost use Rattle.std.specs.Prelude.{◌≡◌, ◌%◌, ◌^◌, ◌<◌};
-ghost use Rattle.rl11.specs.Registers.{register_at, function_number, function_numbered, any_error, control_word, control_fields, fresh_registers, after_address_write, after_silo_read, interrupt_after, after_control_write};
+ghost use Rattle.std.specs.Prelude.{◌≡◌};
+ghost use Rattle.rl11.specs.Registers.{register_at, function_number, function_numbered, any_error, IsControlWord, control_fields, fresh_registers, after_address_write, after_silo_read, interrupt_after, after_control_write};
 
 use crate::words::{has_bit, with_extension, with_low_word};
 
@@ -108,16 +108,18 @@ impl Register {
     }
 }
 
-impl Function {
-    /// The function's number, from 0 to 7.
-    pub(crate) fn number(self) -> u16
-        ensures { result ≡ function_number self }
-    {
-        self as u16
-    }
+/// The function's number, from 0 to 7.
+impl From<Function> for u16 {
+    ghost from_gives = { λ function number. number ≡ function_number function };
 
-    // The function with a number below 8.
-    fn from_number(number: u16) -> Function
+    fn from(function: Function) -> u16 {
+        function as u16
+    }
+}
+
+impl Function {
+    // The function with a number below 8; a named function, since `From` would take any number, and `TryFrom` refuse what three bits cannot hold.
+    fn numbered(number: u16) -> Function
         ensures { result ≡ function_numbered number }
     {
         match number {
@@ -142,7 +144,7 @@ impl Faults {
         no_memory: false,
     };
 
-    // The faults in a control and status word.
+    // The faults in a control and status word; a named function, since the word has other fields beside them.
     fn from_word(word: u16) -> Faults
         ensures { result ≡ (control_fields word).faults }
     {
@@ -166,34 +168,38 @@ impl ControlStatus {
             || self.faults.no_memory
             || self.drive_error
     }
+}
 
-    /// The word that has these fields; its bit 15 is set where any of bits 10 to 14 is.
-    pub(crate) fn word(self) -> u16
-        ensures packed { result ≡ control_word self }
-        ensures back { self.extension < 4 → self.unit < 4 → control_fields result ≡ self }
-    {
-        (self.any_error() as u16) << 15
-            | (self.drive_error as u16) << 14
-            | (self.faults.no_memory as u16) << 13
-            | (self.faults.no_header as u16) << 12
-            | (self.faults.check as u16) << 11
-            | (self.faults.incomplete as u16) << 10
-            | (self.unit as u16 & 3) << 8
-            | (self.ready as u16) << 7
-            | (self.enable as u16) << 6
-            | (self.extension as u16 & 3) << 4
-            | self.function.number() << 1
-            | self.drive_ready as u16
+/// The word that has these fields; its bit 15 is set where any of bits 10 to 14 is.
+impl From<ControlStatus> for u16 {
+    ghost from_gives = { IsControlWord };
+
+    fn from(fields: ControlStatus) -> u16 {
+        (fields.any_error() as u16) << 15
+            | (fields.drive_error as u16) << 14
+            | (fields.faults.no_memory as u16) << 13
+            | (fields.faults.no_header as u16) << 12
+            | (fields.faults.check as u16) << 11
+            | (fields.faults.incomplete as u16) << 10
+            | (fields.unit as u16 & 3) << 8
+            | (fields.ready as u16) << 7
+            | (fields.enable as u16) << 6
+            | (fields.extension as u16 & 3) << 4
+            | u16::from(fields.function) << 1
+            | fields.drive_ready as u16
     }
+}
 
-    /// The fields of a word.
-    pub(crate) fn from_word(word: u16) -> ControlStatus
-        ensures fields { result ≡ control_fields word }
-        ensures back { control_word result % 2 ^ 15 ≡ word % 2 ^ 15 }
-    {
+/// The fields of a word.
+impl From<u16> for ControlStatus {
+    ghost use Rattle.rl11.specs.Registers.{HasControlFields};
+
+    ghost from_gives = { HasControlFields };
+
+    fn from(word: u16) -> ControlStatus {
         ControlStatus {
             drive_ready: has_bit(word, 0),
-            function: Function::from_number(word >> 1 & 7),
+            function: Function::numbered(word >> 1 & 7),
             extension: (word >> 4 & 3) as u8,
             enable: has_bit(word, 6),
             ready: has_bit(word, 7),
@@ -258,7 +264,7 @@ impl Registers {
     pub(crate) fn write_control(&mut self, word: u16)
         ensures { self.new ≡ after_control_write word self.old }
     {
-        let written = ControlStatus::from_word(word);
+        let written = ControlStatus::from(word);
         self.interrupt = self.interrupt_after(written);
         self.command = Command {
             function: written.function,

@@ -72,7 +72,7 @@ impl State {
         ensures after { self.new ≡ after_register_read register self.old }
     {
         match register {
-            Register::ControlStatus => self.control_status().word(),
+            Register::ControlStatus => u16::from(self.control_status()),
             Register::BusAddress => low_word(self.registers.address),
             Register::DiskAddress => self.registers.disk_address,
             Register::Multipurpose => self.registers.read_silo(),

@@ -3,5 +3,5 @@ use Rattle.rl11.proofs.drive.Drive.status_word.Goals as goal
 
 pub returns : goal.returns
 returns c =
-    rw (c.is_rl02.ensures, c.heads_out.ensures, c.is_brushing.ensures, c.number.ensures, c.number-2.ensures)
+    rw (c.is_rl02.ensures, c.heads_out.ensures, c.is_brushing.ensures, c.from.ensures, c.number.ensures)
     (status_packed _ _ _ _ _ _ _ _ _ (head_small _) (state_small _))

@@ -1,13 +1,13 @@
 use Rattle.std.proofs.Common.{◌≡◌, ◌/◌, ap, ◌∙◌}
 use Rattle.std.proofs.lemmas.Nat.{and_mask}
 use Rattle.rl11.proofs.ControlWords.{back_from}
-use Rattle.rl11.proofs.registers.ControlStatus.from_word.Goals as goal
+use Rattle.rl11.proofs.registers.ControlStatusFromU16.from.Goals as goal
 use Rattle.rl11.specs.Registers.{control_fields, function_numbered}
 use Rattle.rl11.specs.declared.registers.ControlStatus.{ControlStatus}
 
 pub returns : goal.returns
 returns c =
-    let function = c.from_number.ensures ∙ ap function_numbered (and_mask (c.args.word / 2) 3) in
+    let function = c.numbered.ensures ∙ ap function_numbered (and_mask (c.args.word / 2) 3) in
     let extension = and_mask (c.args.word / 16) 2 in
     let unit = and_mask (c.args.word / 256) 2 in
     let fields : ◌≡◌ {A = ControlStatus} _ (control_fields c.args.word) =
