@@ -1,5 +1,0 @@
-use Rattle.std.proofs.lemmas.Nat.{and_mask}
-use Rattle.rl11.proofs.words.low_word.Goals as goal
-
-pub returns : goal.returns
-returns c = and_mask c.args.address 16
