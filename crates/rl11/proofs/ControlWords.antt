@@ -2,17 +2,13 @@
 use Rattle.std.proofs.Common.{◌≡◌, ℕ, zero, suc, ◌+◌, ◌*◌, ◌/◌, ◌%◌, ◌^◌, ◌<◌, Bool, true, false, cond, eqb, refl, ap, ◌∙◌, arith}
 use Rattle.std.proofs.lemmas.Nat.{mod-pow-add}
 use Rattle.std.proofs.lemmas.Bool.Decides.{nat_tests}
-use Rattle.rl11.proofs.Packing.{function_small}
+use Rattle.rl11.proofs.Packing.{flag_small, function_small}
 use Rattle.rl11.specs.Registers.{function_number, function_numbered, any_error, control_word, control_fields}
 use Rattle.rl11.specs.declared.registers.ControlStatus.{ControlStatus}
 use Rattle.rl11.specs.declared.registers.Function.{Function}
 use Rattle.rl11.specs.declared.registers.Function.TheVariants.{NoOp, WriteCheck, GetStatus, Seek, ReadHeader, WriteData, ReadData, ReadWithoutHeaderCheck}
 
 -- A flag as a number, and back.
-one_bit : (b : Bool) → cond b 1 0 < 2
-one_bit true = omega arith
-one_bit false = omega arith
-
 set_again : (b : Bool) (n : ℕ) → n ≡ cond b 1 0 → eqb n 1 ≡ b
 set_again true n e = grind (arith, nat_tests)
 set_again false n e = grind (arith, nat_tests)
@@ -34,27 +30,18 @@ function_again ReadWithoutHeaderCheck n e = rw e
 -- The fields of the word made of some fields are those fields.
 pub fields_again : (c : ControlStatus) → c.extension < 4 → c.unit < 4 → control_fields (control_word c) ≡ c
 fields_again c px pu =
-    let p15 = one_bit (any_error c) in
-    let p14 = one_bit c.drive_error in
-    let p13 = one_bit c.faults.no_memory in
-    let p12 = one_bit c.faults.no_header in
-    let p11 = one_bit c.faults.check in
-    let p10 = one_bit c.faults.incomplete in
-    let p7 = one_bit c.ready in
-    let p6 = one_bit c.enable in
-    let p1 = function_small c.function in
-    let p0 = one_bit c.drive_ready in
-    let f14 = set_again c.drive_error (control_word c / 2 ^ 14 % 2) (omega arith) in
-    let f13 = set_again c.faults.no_memory (control_word c / 2 ^ 13 % 2) (omega arith) in
-    let f12 = set_again c.faults.no_header (control_word c / 2 ^ 12 % 2) (omega arith) in
-    let f11 = set_again c.faults.check (control_word c / 2 ^ 11 % 2) (omega arith) in
-    let f10 = set_again c.faults.incomplete (control_word c / 2 ^ 10 % 2) (omega arith) in
-    let f8 : control_word c / 2 ^ 8 % 4 ≡ c.unit = omega arith in
-    let f7 = set_again c.ready (control_word c / 2 ^ 7 % 2) (omega arith) in
-    let f6 = set_again c.enable (control_word c / 2 ^ 6 % 2) (omega arith) in
-    let f4 : control_word c / 2 ^ 4 % 4 ≡ c.extension = omega arith in
-    let f1 = function_again c.function (control_word c / 2 ^ 1 % 8) (omega arith) in
-    let f0 = set_again c.drive_ready (control_word c / 2 ^ 0 % 2) (omega arith) in
+    let function = function_small c.function in
+    let f14 = set_again c.drive_error (control_word c / 2 ^ 14 % 2) (omega (arith, flag_small)) in
+    let f13 = set_again c.faults.no_memory (control_word c / 2 ^ 13 % 2) (omega (arith, flag_small)) in
+    let f12 = set_again c.faults.no_header (control_word c / 2 ^ 12 % 2) (omega (arith, flag_small)) in
+    let f11 = set_again c.faults.check (control_word c / 2 ^ 11 % 2) (omega (arith, flag_small)) in
+    let f10 = set_again c.faults.incomplete (control_word c / 2 ^ 10 % 2) (omega (arith, flag_small)) in
+    let f8 : control_word c / 2 ^ 8 % 4 ≡ c.unit = omega (arith, flag_small) in
+    let f7 = set_again c.ready (control_word c / 2 ^ 7 % 2) (omega (arith, flag_small)) in
+    let f6 = set_again c.enable (control_word c / 2 ^ 6 % 2) (omega (arith, flag_small)) in
+    let f4 : control_word c / 2 ^ 4 % 4 ≡ c.extension = omega (arith, flag_small) in
+    let f1 = function_again c.function (control_word c / 2 ^ 1 % 8) (omega (arith, flag_small)) in
+    let f0 = set_again c.drive_ready (control_word c / 2 ^ 0 % 2) (omega (arith, flag_small)) in
     λ i. record {
       drive_ready = f0 i;
       function = f1 i;
@@ -108,7 +95,3 @@ word_again w =
     (pair_below w 8) (flag_below w 7) (flag_below w 6) (pair_below w 4) (function_below w) (lowest w)
     in
     ap (λ n. n % 2 ^ 15) whole ∙ omega arith
-
--- The fields of a word make that word again, but for bit 15.
-pub back_from : (c : ControlStatus) (w : ℕ) → c ≡ control_fields w → control_word c % 2 ^ 15 ≡ w % 2 ^ 15
-back_from c w e = ap (λ (x : ControlStatus). control_word x % 2 ^ 15) e ∙ word_again w

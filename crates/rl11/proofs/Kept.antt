@@ -5,9 +5,10 @@ use Rattle.std.proofs.lemmas.Bool.Decides.{nat_tests}
 use Rattle.media.specs.declared.kinds.Kind.{Kind}
 use Rattle.rl11.specs.Drive.{is_there, is_pack, holds, is_empty, runs, fresh_drive, turned, in_state, after_event}
 use Rattle.rl11.specs.Keeps.{is_coupled, all_coupled, is_alone, packs_apart}
-use Rattle.rl11.specs.Panel.{same_kind, load_check, with_drives, pressed}
+use Rattle.rl11.specs.Panel.{same_kind, load_check, unload_check, protect_check, with_drives, pressed}
 use Rattle.rl11.specs.State.{is_unit, no_drive, drive_at, is_loaded}
 use Rattle.rl11.specs.declared.drive.Drive.{Drive}
+use Rattle.rl11.specs.declared.keeping.Core.{Core}
 use Rattle.rl11.specs.declared.drive.DriveState.{DriveState}
 use Rattle.rl11.specs.declared.drive.DriveState.TheVariants.{Empty, SpinUp, Brush, LoadHeads, Seek, LockOn, UnloadHeads, SpinDown}
 use Rattle.rl11.specs.declared.drive.Event.{Event}
@@ -133,56 +134,62 @@ new_apart p (x ∷ ds) (suc u) d e none h =
 abbrev pub Kept : State → Type 0
 Kept s = record { coupled : all_coupled s.drives ≡ true; apart : packs_apart s.drives ≡ true; turning : s.angle < 40 }
 
+-- The core keeps it.
+kept : (core : Core) → Kept core.state
+kept core = record { coupled = core.coupled; apart = core.apart; turning = core.turning }
+
 -- A press that leaves the drive's pack keeps it all.
-acted_kept : (there : Bool) (u : ℕ) (e : Event) (s : State) → (after_event e (get_or s.drives u no_drive)).pack ≡ (get_or s.drives u no_drive).pack
-    → Kept s → Kept (cond there (with_drives (set s.drives u (after_event e (get_or s.drives u no_drive))) s) s)
-acted_kept false u e s same kept = kept
-acted_kept true u e s same kept =
+acted_kept : (there : Bool) (u : ℕ) (e : Event) (core : Core) → (after_event e (get_or core.state.drives u no_drive)).pack ≡ (get_or core.state.drives u no_drive).pack
+    → Kept (cond there (with_drives (set core.state.drives u (after_event e (get_or core.state.drives u no_drive))) core.state) core.state)
+acted_kept false u e core same = kept core
+acted_kept true u e core same =
     record {
-      coupled = acted_coupled e u s.drives kept.coupled;
-      apart = same_apart s.drives u (after_event e (get_or s.drives u no_drive)) same kept.apart;
-      turning = kept.turning;
+      coupled = acted_coupled e u core.state.drives core.coupled;
+      apart = same_apart core.state.drives u (after_event e (get_or core.state.drives u no_drive)) same core.apart;
+      turning = core.turning;
     }
 
-pressed_kept : (r : Result (Unit {0}) PanelRefusal) (u : ℕ) (e : Event) (s : State) → (after_event e (get_or s.drives u no_drive)).pack ≡ (get_or s.drives u no_drive).pack
-    → Kept s → Kept (pressed r u e s)
-pressed_kept (Ok _) u e s same kept = acted_kept (is_unit u) u e s same kept
-pressed_kept (Err _) u e s same kept = kept
+pressed_kept : (r : Result (Unit {0}) PanelRefusal) (u : ℕ) (e : Event) (core : Core) → (after_event e (get_or core.state.drives u no_drive)).pack ≡ (get_or core.state.drives u no_drive).pack
+    → Kept (pressed r u e core.state)
+pressed_kept (Ok _) u e core same = acted_kept (is_unit u) u e core same
+pressed_kept (Err _) u e core same = kept core
 
-pub unload_kept : (r : Result (Unit {0}) PanelRefusal) (u : ℕ) (s : State) → Kept s → Kept (pressed r u Unload s)
-unload_kept r u s kept = pressed_kept r u Unload s (same (get_or s.drives u no_drive) (runs (get_or s.drives u no_drive).state)) kept
+pub unload_kept : (u : ℕ) (core : Core) → Kept (pressed (unload_check u core.state.drives) u Unload core.state)
+unload_kept u core =
+    let d = get_or core.state.drives u no_drive in
+    pressed_kept (unload_check u core.state.drives) u Unload core (same d (runs d.state))
   where
     same : (d : Drive) (b : Bool) → (cond b (in_state UnloadHeads d) d).pack ≡ d.pack
     same d true = refl
     same d false = refl
 
-pub protect_kept : (r : Result (Unit {0}) PanelRefusal) (u : ℕ) (s : State) → Kept s → Kept (pressed r u Protect s)
-protect_kept r u s kept = pressed_kept r u Protect s refl kept
+pub protect_kept : (u : ℕ) (core : Core) → Kept (pressed (protect_check u core.state.drives) u Protect core.state)
+protect_kept u core = pressed_kept (protect_check u core.state.drives) u Protect core refl
 
 -- A pack that is in no drive comes into an empty one.
-loaded_kept : (there : Bool) (u p : ℕ) (s : State) → is_empty (cond there (get_or s.drives u no_drive) no_drive).state ≡ true → is_loaded p s.drives ≡ false
-    → Kept s → Kept (cond there (with_drives (set s.drives u (after_event (Load p) (get_or s.drives u no_drive))) s) s)
-loaded_kept false u p s empty free kept = kept
-loaded_kept true u p s empty free kept =
+loaded_kept : (there : Bool) (u p : ℕ) (core : Core) → is_empty (cond there (get_or core.state.drives u no_drive) no_drive).state ≡ true → is_loaded p core.state.drives ≡ false
+    → Kept (cond there (with_drives (set core.state.drives u (after_event (Load p) (get_or core.state.drives u no_drive))) core.state) core.state)
+loaded_kept false u p core empty free = kept core
+loaded_kept true u p core empty free =
     record {
-      coupled = acted_coupled (Load p) u s.drives kept.coupled;
-      apart = new_apart p s.drives u (after_event (Load p) (get_or s.drives u no_drive)) (brought (get_or s.drives u no_drive) empty) free kept.apart;
-      turning = kept.turning;
+      coupled = acted_coupled (Load p) u core.state.drives core.coupled;
+      apart = new_apart p core.state.drives u _ (brought (get_or core.state.drives u no_drive) empty) free core.apart;
+      turning = core.turning;
     }
   where
     brought : (d : Drive) → is_empty d.state ≡ true → (after_event (Load p) d).pack ≡ Some p
-    brought d e = ap (λ (x : Drive). x.pack) (cond-true (is_empty d.state) (turned SpinUp (Some p) d) d e)
+    brought d e = rw e
 
-pub load_kept : (u p : ℕ) (offered : Option Kind) (s : State) → Kept s → Kept (pressed (load_check u p offered s.drives) u (Load p) s)
-load_kept u p offered s kept =
-    checked (is_there (drive_at s.drives u)) (is_empty (drive_at s.drives u).state) (is_some offered)
-    (same_kind offered (drive_at s.drives u).kind) (is_loaded p s.drives) refl refl
+pub load_kept : (u p : ℕ) (offered : Option Kind) (core : Core) → Kept (pressed (load_check u p offered core.state.drives) u (Load p) core.state)
+load_kept u p offered core =
+    checked (is_there (drive_at core.state.drives u)) (is_empty (drive_at core.state.drives u).state) (is_some offered)
+    (same_kind offered (drive_at core.state.drives u).kind) (is_loaded p core.state.drives) refl refl
   where
-    checked : (there empty given fits taken : Bool) → is_empty (drive_at s.drives u).state ≡ empty → is_loaded p s.drives ≡ taken
-        → Kept (pressed (cond (not there) (Err NoDrive) (cond (not empty) (Err NotEmpty) (cond (not given) (Err NoPack) (cond (not fits) (Err OtherKind) (cond taken (Err InAnotherDrive) (Ok tt)))))) u (Load p) s)
-    checked false empty given fits taken e l = kept
-    checked true false given fits taken e l = kept
-    checked true true false fits taken e l = kept
-    checked true true true false taken e l = kept
-    checked true true true true true e l = kept
-    checked true true true true false e l = loaded_kept (is_unit u) u p s e l kept
+    checked : (there empty given fits taken : Bool) → is_empty (drive_at core.state.drives u).state ≡ empty → is_loaded p core.state.drives ≡ taken
+        → Kept (pressed (cond (not there) (Err NoDrive) (cond (not empty) (Err NotEmpty) (cond (not given) (Err NoPack) (cond (not fits) (Err OtherKind) (cond taken (Err InAnotherDrive) (Ok tt)))))) u (Load p) core.state)
+    checked false empty given fits taken e l = kept core
+    checked true false given fits taken e l = kept core
+    checked true true false fits taken e l = kept core
+    checked true true true false taken e l = kept core
+    checked true true true true true e l = kept core
+    checked true true true true false e l = loaded_kept (is_unit u) u p core e l

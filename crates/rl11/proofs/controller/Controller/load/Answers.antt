@@ -2,6 +2,4 @@ use Rattle.rl11.proofs.Kept.{load_kept}
 use Rattle.rl11.proofs.controller.Controller.load.Goals as goal
 
 pub invariant_of-self : goal.invariant_of-self
-invariant_of-self g c =
-    let core = c.args.self.now.core in
-    rw c.load.ensures.after (load_kept c.args.unit c.args.pack _ core.state (record { coupled = core.coupled; apart = core.apart; turning = core.turning }))
+invariant_of-self g c = rw c.load.ensures.after (load_kept c.args.unit c.args.pack _ c.args.self.now.core)
