@@ -1,9 +1,11 @@
 -- What the drives keep, over each thing that can happen to them.
 use Rattle.std.proofs.Common.{◌≡◌, ℕ, zero, suc, ◌-◌, ◌<◌, Bool, true, false, cond, not, ◌&&◌, ◌||◌, eqb, ltb, List, [], ◌∷◌, map, get_or, set, is_some, Some, None, Ok, Err, Option, Result, refl, ap, ◌∙◌, arith}
-use Rattle.std.proofs.lemmas.Bool.{and_parts, and_from, or_parts, or_from, not-true, not_from_false, cond-true}
+use Rattle.std.proofs.lemmas.Bool.{and_parts, and_from, or_parts, or_from, not-true, not_from_false}
+use Rattle.std.proofs.lemmas.List.Elements.{All-set}
+use Rattle.std.proofs.lemmas.List.Sums.{AllPass-from_list_all, list_all-from_AllPass}
 use Rattle.std.proofs.lemmas.Bool.Decides.{nat_tests}
 use Rattle.media.specs.declared.kinds.Kind.{Kind}
-use Rattle.rl11.specs.Drive.{is_there, is_pack, holds, is_empty, runs, fresh_drive, turned, in_state, after_event}
+use Rattle.rl11.specs.Drive.{is_there, is_pack, holds, is_empty, runs, fresh_drive, turned, in_state, ticked_in, after_event}
 use Rattle.rl11.specs.Keeps.{is_coupled, all_coupled, is_alone, packs_apart}
 use Rattle.rl11.specs.Panel.{same_kind, load_check, unload_check, protect_check, with_drives, pressed}
 use Rattle.rl11.specs.State.{is_unit, no_drive, drive_at, is_loaded}
@@ -32,54 +34,40 @@ one_coupled [] u all = refl
 one_coupled (d ∷ ds) zero all = (and_parts (is_coupled d) (all_coupled ds) all).0
 one_coupled (d ∷ ds) (suc u) all = one_coupled ds u (and_parts (is_coupled d) (all_coupled ds) all).1
 
--- The same drive, in a state that stands by itself, so that cases can be made of it.
-abbrev in_case : Drive → DriveState → Drive
-in_case d s =
-    record { kind = d.kind; state = s; pack = d.pack; cylinder = d.cylinder; head = d.head; protected = d.protected; errors = d.errors }
+-- A load press puts a pack into an empty drive, an unload press leaves the pack in one that runs.
+load_coupled : (p : ℕ) (d : Drive) (b : Bool) → is_coupled d ≡ true → is_coupled (cond b (turned SpinUp (Some p) d) d) ≡ true
+load_coupled p d true h = refl
+load_coupled p d false h = h
 
--- A seek's tick leaves the pack.
-seek_coupled : (b : Bool) (n : ℕ) (d : Drive) → is_coupled (in_case d (Seek n)) ≡ true → is_coupled (in_state (cond b (Seek (n - 1)) LockOn) d) ≡ true
-seek_coupled true n d h = h
-seek_coupled false n d h = h
+unload_coupled : (d : Drive) (b : Bool) → runs d.state ≡ b → is_coupled d ≡ true → is_coupled (cond b (in_state UnloadHeads d) d) ≡ true
+unload_coupled d true running h = grind (arith, nat_tests)
+unload_coupled d false running h = h
+
+-- A tick leaves the pack in a drive but at the end of spin down.
+tick_coupled : (s : DriveState) (d : Drive) → s ≡ d.state → is_coupled d ≡ true → is_coupled (ticked_in s d) ≡ true
+tick_coupled Empty d e h = h
+tick_coupled SpinUp d e h = rw (← e) at h
+tick_coupled Brush d e h = rw (← e) at h
+tick_coupled LoadHeads d e h = rw (← e) at h
+tick_coupled (Seek n) d e h = rested (ltb 1 n) (rw (← e) at h)
+  where
+    rested : (b : Bool) → is_some d.pack ≡ true → is_coupled (in_state (cond b (Seek (n - 1)) LockOn) d) ≡ true
+    rested true h = h
+    rested false h = h
+tick_coupled LockOn d e h = h
+tick_coupled UnloadHeads d e h = rw (← e) at h
+tick_coupled SpinDown d e h = refl
 
 -- A press and a tick leave a drive with a pack exactly outside state 0.
-case_coupled : (e : Event) (d : Drive) (s : DriveState) → is_coupled (in_case d s) ≡ true → is_coupled (after_event e (in_case d s)) ≡ true
-case_coupled (Load p) d Empty h = refl
-case_coupled (Load p) d SpinUp h = h
-case_coupled (Load p) d Brush h = h
-case_coupled (Load p) d LoadHeads h = h
-case_coupled (Load p) d (Seek n) h = h
-case_coupled (Load p) d LockOn h = h
-case_coupled (Load p) d UnloadHeads h = h
-case_coupled (Load p) d SpinDown h = h
-case_coupled Unload d Empty h = h
-case_coupled Unload d SpinUp h = h
-case_coupled Unload d Brush h = h
-case_coupled Unload d LoadHeads h = h
-case_coupled Unload d (Seek n) h = h
-case_coupled Unload d LockOn h = h
-case_coupled Unload d UnloadHeads h = h
-case_coupled Unload d SpinDown h = h
-case_coupled Protect d s h = h
-case_coupled Tick d Empty h = h
-case_coupled Tick d SpinUp h = h
-case_coupled Tick d Brush h = h
-case_coupled Tick d LoadHeads h = h
-case_coupled Tick d (Seek n) h = seek_coupled (ltb 1 n) n d h
-case_coupled Tick d LockOn h = h
-case_coupled Tick d UnloadHeads h = h
-case_coupled Tick d SpinDown h = refl
-
 event_coupled : (e : Event) (d : Drive) → is_coupled d ≡ true → is_coupled (after_event e d) ≡ true
-event_coupled e d h = case_coupled e d d.state h
+event_coupled (Load p) d h = load_coupled p d (is_empty d.state) h
+event_coupled Unload d h = unload_coupled d (runs d.state) refl h
+event_coupled Protect d h = h
+event_coupled Tick d h = tick_coupled d.state d refl h
 
 -- One drive changed among the others.
 set_coupled : (ds : List Drive) (u : ℕ) (d : Drive) → all_coupled ds ≡ true → is_coupled d ≡ true → all_coupled (set ds u d) ≡ true
-set_coupled [] u d all one = refl
-set_coupled (x ∷ ds) zero d all one = and_from (is_coupled d) (all_coupled ds) one (and_parts (is_coupled x) (all_coupled ds) all).1
-set_coupled (x ∷ ds) (suc u) d all one =
-    let both = and_parts (is_coupled x) (all_coupled ds) all in
-    and_from (is_coupled x) (all_coupled (set ds u d)) both.0 (set_coupled ds u d both.1 one)
+set_coupled ds u d all one = list_all-from_AllPass is_coupled _ (All-set (λ x. is_coupled x ≡ true) ds u d one (AllPass-from_list_all is_coupled ds all))
 
 -- What happens to one drive leaves all with a pack exactly outside state 0.
 pub acted_coupled : (e : Event) (u : ℕ) (ds : List Drive) → all_coupled ds ≡ true → all_coupled (set ds u (after_event e (get_or ds u no_drive))) ≡ true

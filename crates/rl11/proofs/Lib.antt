@@ -1,4 +1,4 @@
 mod ControlWords
 mod Kept
+mod Makes
 mod Packing
-mod Units

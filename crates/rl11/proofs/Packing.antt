@@ -1,6 +1,6 @@
 -- The fields of a word, packed by shifts and `|`.
-use Rattle.std.proofs.Common.{◌≡◌, ℕ, suc, ◌+◌, ◌*◌, ◌/◌, ◌%◌, ◌^◌, ◌<◌, Bool, true, false, if◌then◌else◌, sym, refl, ap, ◌∙◌, arith}
-use lib.Bits.{bit_and, bit_or}
+use Rattle.std.proofs.Common.{◌≡◌, ℕ, ◌+◌, ◌*◌, ◌/◌, ◌%◌, ◌^◌, ◌<◌, Bool, true, false, if◌then◌else◌, sym, refl, ap, ◌∙◌, arith}
+use lib.Bits.{bit_or}
 use mir.Val.{bool_byte}
 use Rattle.std.proofs.lemmas.Nat.{or_shifted, shr_split, pow_pos}
 use Rattle.std.proofs.lemmas.Grind.{pow_more}

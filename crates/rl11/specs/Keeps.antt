@@ -1,5 +1,6 @@
 -- What the drives always keep.
 use Rattle.std.specs.Prelude.{ℕ, Bool, true, not, ◌&&◌, List, [], ◌∷◌, is_some, Some, None, Option, if◌then◌else◌}
+use Rattle.std.specs.List.{list_all}
 use Rattle.rl11.specs.Drive.{is_empty}
 use Rattle.rl11.specs.State.{is_loaded}
 use Rattle.rl11.specs.declared.drive.Drive.{Drive}
@@ -10,8 +11,7 @@ is_coupled d = if is_empty d.state then not (is_some d.pack) else is_some d.pack
 
 -- Every drive has a pack exactly outside state 0.
 abbrev pub all_coupled : List Drive → Bool
-all_coupled [] = true
-all_coupled (d ∷ ds) = is_coupled d && all_coupled ds
+all_coupled ds = list_all is_coupled ds
 
 -- Whether the pack of a drive, if it has one, is in none of the others.
 abbrev pub is_alone : Option ℕ → List Drive → Bool

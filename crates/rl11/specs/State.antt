@@ -1,5 +1,5 @@
 -- The controller without its shelf and its memory: registers, drives and the angle of the packs.
-use Rattle.std.specs.Prelude.{ℕ, ◌%◌, Bool, false, not, ◌&&◌, ◌||◌, List, [], ◌∷◌, map, is_some, None, Ok, Err, Option, Result, nat_lt, slice_index_or, if◌then◌else◌}
+use Rattle.std.specs.Prelude.{ℕ, ◌%◌, Bool, false, not, ◌&&◌, List, map, is_some, None, Ok, Err, Option, Result, nat_lt, slice_index_or, if◌then◌else◌}
 use Rattle.std.specs.List.{list_any}
 use Rattle.media.specs.declared.kinds.Kind.{Kind}
 use Rattle.rl11.specs.Drive.{fresh_drive, is_there, holds, is_locked, has_error}

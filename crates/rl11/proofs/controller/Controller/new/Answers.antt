@@ -1,5 +1,5 @@
 use Rattle.std.proofs.Common.{rules, refl}
-use Rattle.rl11.proofs.Units.{kinds_refused}
+use Rattle.rl11.proofs.Makes.{kinds_refused}
 use Rattle.rl11.proofs.controller.Controller.new.Goals as goal
 
 pub returns-in-Err : goal.returns-in-Err

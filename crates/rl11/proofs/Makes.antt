@@ -1,5 +1,5 @@
--- The numbers of kinds of four units.
-use Rattle.std.proofs.Common.{◌≡◌, ℕ, true, false, Bool, ltb, List, Err, Ok, Option, Result, cond, refl, sym, ap, ◌∙◌, arith}
+-- The numbers of kinds that a controller is made with.
+use Rattle.std.proofs.Common.{◌≡◌, ℕ, true, false, Bool, ltb, List, Err, Ok, Option, cond, refl, sym, ap, ◌∙◌}
 use Rattle.std.proofs.lemmas.List.Folds.{list_any_at}
 use Rattle.std.specs.List.{IsAmong}
 use Rattle.media.specs.Kinds.{kind_of}
