@@ -1,10 +1,9 @@
 // Registers and interrupts.
 use crate::support::{CS, answers, declines, reads, writes};
-use exchanges::calls::{Answer, Call};
+use exchanges::calls::{Call, Reply};
 use memories::board::Board;
 use rl11::controller::Controller;
 use shelves::cards::CardShelf;
-use std::test::Fail;
 
 #[test]
 fn words_written_are_read_again(rt: HostRuntime) {
@@ -22,35 +21,35 @@ fn words_written_are_read_again(rt: HostRuntime) {
 }
 
 #[test]
-fn an_interrupt_waits_until_it_is_granted_or_withdrawn(rt: HostRuntime) -> Result<(), Fail> {
+fn an_interrupt_waits_until_it_is_granted_or_withdrawn(rt: HostRuntime) {
     let shelf = CardShelf::new([0; 8], &mut []);
     let mut controller = Controller::fresh([None; 4], shelf, Board::new(&mut []));
-    declines(&rt, &mut controller, Call::Grant, 6)?;
+    declines(&rt, &mut controller, Call::Grant, 6);
     writes(&rt, &mut controller, CS, 0o300);
     writes(&rt, &mut controller, CS, 0o300);
-    answers(&rt, &mut controller, Call::Grant, Answer::Vector(0o160));
-    declines(&rt, &mut controller, Call::Grant, 6)?;
+    answers(&rt, &mut controller, Call::Grant, Reply::Vector(0o160));
+    declines(&rt, &mut controller, Call::Grant, 6);
     writes(&rt, &mut controller, CS, 0o300);
-    declines(&rt, &mut controller, Call::Grant, 6)?;
+    declines(&rt, &mut controller, Call::Grant, 6);
     writes(&rt, &mut controller, CS, 0o200);
     writes(&rt, &mut controller, CS, 0o300);
     writes(&rt, &mut controller, CS, 0o100);
-    answers(&rt, &mut controller, Call::Grant, Answer::Vector(0o160));
-    answers(&rt, &mut controller, Call::Init, Answer::Done);
+    answers(&rt, &mut controller, Call::Grant, Reply::Vector(0o160));
+    answers(&rt, &mut controller, Call::Init, Reply::Done);
     writes(&rt, &mut controller, CS, 0o300);
     writes(&rt, &mut controller, CS, 0o200);
-    declines(&rt, &mut controller, Call::Grant, 6)
+    declines(&rt, &mut controller, Call::Grant, 6);
 }
 
 #[test]
-fn addresses_are_refused_in_order(rt: HostRuntime) -> Result<(), Fail> {
+fn addresses_are_refused_in_order(rt: HostRuntime) {
     let shelf = CardShelf::new([0; 8], &mut []);
     let mut words = [1];
     let mut controller = Controller::fresh([None; 4], shelf, Board::new(&mut words));
-    declines(&rt, &mut controller, Call::Read { address: 0o1000001 }, 2)?;
-    declines(&rt, &mut controller, Call::Read { address: 0o777777 }, 3)?;
-    declines(&rt, &mut controller, Call::Read { address: 2 }, 4)?;
-    declines(&rt, &mut controller, Call::Read { address: CS + 8 }, 4)?;
+    declines(&rt, &mut controller, Call::Read { address: 0o1000001 }, 2);
+    declines(&rt, &mut controller, Call::Read { address: 0o777777 }, 3);
+    declines(&rt, &mut controller, Call::Read { address: 2 }, 4);
+    declines(&rt, &mut controller, Call::Read { address: CS + 8 }, 4);
     declines(
         &rt,
         &mut controller,
@@ -59,7 +58,7 @@ fn addresses_are_refused_in_order(rt: HostRuntime) -> Result<(), Fail> {
             word: 0,
         },
         2,
-    )?;
+    );
     declines(
         &rt,
         &mut controller,
@@ -68,7 +67,7 @@ fn addresses_are_refused_in_order(rt: HostRuntime) -> Result<(), Fail> {
             word: 0,
         },
         3,
-    )?;
+    );
     declines(
         &rt,
         &mut controller,
@@ -77,7 +76,7 @@ fn addresses_are_refused_in_order(rt: HostRuntime) -> Result<(), Fail> {
             word: 0,
         },
         4,
-    )?;
+    );
     writes(&rt, &mut controller, CS, 0);
     declines(
         &rt,
@@ -87,7 +86,7 @@ fn addresses_are_refused_in_order(rt: HostRuntime) -> Result<(), Fail> {
             word: 0,
         },
         3,
-    )?;
+    );
     declines(
         &rt,
         &mut controller,
@@ -96,7 +95,6 @@ fn addresses_are_refused_in_order(rt: HostRuntime) -> Result<(), Fail> {
             word: 0,
         },
         5,
-    )?;
+    );
     reads(&rt, &mut controller, 0, 1);
-    Ok(())
 }

@@ -1,22 +1,21 @@
 // What the tests share.
-use exchanges::calls::{Answer, Call};
+use exchanges::calls::{Call, Reply};
 use media::memory::BusMemory;
 use media::shelf::Shelf;
 use rl11::controller::Controller;
 use std::process::Abort;
-use std::test::Fail;
 
 /// The control and status register.
 pub(super) const CS: u32 = 0o774400;
 
-/// Sends a call that answers so.
+/// Sends a call that is accepted and answers so.
 pub(super) fn answers<S: Shelf, M: BusMemory>(
     rt: &impl Abort,
     controller: &mut Controller<S, M>,
     call: Call,
-    answer: Answer,
+    reply: Reply,
 ) {
-    assert_eq!(rt; controller.send(call), answer);
+    assert_eq!(rt; controller.send(call), Ok(reply));
 }
 
 /// A bus read that answers a word.
@@ -26,7 +25,7 @@ pub(super) fn reads<S: Shelf, M: BusMemory>(
     address: u32,
     word: u16,
 ) {
-    answers(rt, controller, Call::Read { address }, Answer::Word(word));
+    answers(rt, controller, Call::Read { address }, Reply::Word(word));
 }
 
 /// An accepted bus write.
@@ -36,7 +35,7 @@ pub(super) fn writes<S: Shelf, M: BusMemory>(
     address: u32,
     word: u16,
 ) {
-    answers(rt, controller, Call::Write { address, word }, Answer::Done);
+    answers(rt, controller, Call::Write { address, word }, Reply::Done);
 }
 
 /// A call that is refused with a number.
@@ -45,17 +44,8 @@ pub(super) fn declines<S: Shelf, M: BusMemory>(
     controller: &mut Controller<S, M>,
     call: Call,
     number: u8,
-) -> Result<(), Fail> {
-    match controller.send(call) {
-        Answer::Refused(refusal) => {
-            assert_eq!(rt; refusal.number(), number);
-            Ok(())
-        },
-        _ => {
-            assert!(rt; false);
-            Ok(())
-        },
-    }
+) {
+    assert_eq!(rt; controller.send(call).map_err(u8::from), Err(number));
 }
 
 /// A make that is refused with 1, and what it hands back.
@@ -64,16 +54,12 @@ pub(super) fn refused_make<S: Shelf + Drop, M: BusMemory + Drop>(
     kinds: [u8; 4],
     shelf: S,
     memory: M,
-) -> Result<(S, M), Fail> {
+) -> (S, M) {
     match Controller::new(kinds, shelf, memory) {
-        Ok(controller) => {
-            let (shelf, memory) = controller.into_parts();
-            assert!(rt; false);
-            Ok((shelf, memory))
-        }
+        Ok(_) => panic!(rt; "a controller is made"),
         Err(unmade) => {
-            assert_eq!(rt; unmade.refusal.number(), 1);
-            Ok((unmade.shelf, unmade.memory))
+            assert_eq!(rt; u8::from(unmade.refusal), 1);
+            (unmade.shelf, unmade.memory)
         }
     }
 }
