@@ -5,14 +5,14 @@ use Rattle.std.specs.List.{slice_get}
 use Rattle.std.proofs.lemmas.Bool.{eqb-true, eq-eqb, and_parts, and_from}
 use Rattle.std.proofs.lemmas.Bool.Decides.{nat_tests}
 use Rattle.std.proofs.lemmas.List.Folds.{find-set, find_past}
-use Rattle.shelves.specs.Cards.{is_of, is_free, card_of, card_kinds, on_card, card_sector, kinds_packs, overwritten, claimed, put_card, deck_left, card_after}
+use Rattle.shelves.specs.Cards.{is_of, is_free, card_of, card_kinds, on_card, card_sector, packs_of_kinds, overwritten, claimed, put_card, deck_left, card_after}
 use Rattle.media.specs.Marks.{mark_of, mended}
-use Rattle.media.specs.Shelf.{Sector, has_block, sector_check, store_reply, after_store, takes_in, stored, left_by, rewritten, kept}
+use Rattle.media.specs.Shelf.{has_block, sector_check, store_reply, after_store, takes_in, stored, left_by, rewritten, kept}
 use Rattle.shelves.specs.declared.cards.Card.{Card}
 use Rattle.media.specs.declared.kinds.Kind.{Kind}
 use Rattle.media.specs.declared.shelf.ShelfRefusal.{ShelfRefusal}
 use Rattle.media.specs.declared.shelf.ShelfRefusal.TheVariants.{NotTaking}
-use Rattle.shelves.proofs.Decks.{FirstAt, first_at, changed_at, nowhere, find_new}
+use Rattle.shelves.proofs.Decks.{first_at, changed_at, nowhere, find_new}
 use Rattle.shelves.proofs.Sectors.{passed}
 use Rattle.shelves.specs.Laws.{few_cards}
 use Rattle.media.proofs.Shelves.{in_row, store_there, after_there, stored_shelf}
@@ -47,8 +47,8 @@ no_card = card_of 0 0 0 []
 
 -- What a store promises of its answer and of the cards that it leaves.
 pub record StoredAs (kinds : List (Option Kind)) (deck : List Card) (pack block : ℕ) (buffer : List ℕ) (reply' : Result (Unit {0}) ShelfRefusal) (deck' : List Card) : Type 0 where
-  pub reply : reply' ≡ store_reply (kinds_packs kinds deck) pack block buffer
-  pub after : kinds_packs kinds deck' ≡ after_store (kinds_packs kinds deck) pack block buffer (takes_in (kinds_packs kinds deck'))
+  pub reply : reply' ≡ store_reply (packs_of_kinds kinds deck) pack block buffer
+  pub after : packs_of_kinds kinds deck' ≡ after_store (packs_of_kinds kinds deck) pack block buffer (takes_in (packs_of_kinds kinds deck'))
   pub cards : deck' ≡ card_after kinds deck pack block buffer
 
 -- A store of 128 words on a sector that is there.
@@ -61,10 +61,10 @@ module _ (kinds : List (Option Kind)) (deck : List Card) (pack block : ℕ) (buf
 
   -- where the sector takes, a deck on which it is rewritten and every other sector has the card that it had is what the store leaves
   module _ (takes : (card_sector deck pack block).takes ≡ true) where
-    accepted : Ok tt ≡ store_reply (kinds_packs kinds deck) pack block buffer
+    accepted : Ok tt ≡ store_reply (packs_of_kinds kinds deck) pack block buffer
     accepted = sym (store_there (card_kinds kinds) (card_sector deck) pack block buffer long there ∙ ap (λ b. cond b (Ok tt) (Err NotTaking)) takes)
 
-    stored_deck : (new : List Card) → card_sector new pack block ≡ rewritten buffer (card_sector deck pack block) → ((p b : ℕ) → p < 8 → (eqb p pack && eqb b block) ≡ false → find (is_of p b) new ≡ find (is_of p b) deck) → kinds_packs kinds new ≡ after_store (kinds_packs kinds deck) pack block buffer (takes_in (kinds_packs kinds new))
+    stored_deck : (new : List Card) → card_sector new pack block ≡ rewritten buffer (card_sector deck pack block) → ((p b : ℕ) → p < 8 → (eqb p pack && eqb b block) ≡ false → find (is_of p b) new ≡ find (is_of p b) deck) → packs_of_kinds kinds new ≡ after_store (packs_of_kinds kinds deck) pack block buffer (takes_in (packs_of_kinds kinds new))
     stored_deck new stores keeps =
         stored_shelf (card_kinds kinds) (card_sector deck) (card_sector new) pack block buffer
         (λ p b same. let parts = and_parts (eqb p pack) (eqb b block) same in
@@ -80,7 +80,7 @@ module _ (kinds : List (Option Kind)) (deck : List Card) (pack block : ℕ) (buf
     stored_as deck' new written put stores keeps =
         record {
           reply = accepted;
-          after = subst⁻¹ (λ d. kinds_packs kinds d ≡ after_store (kinds_packs kinds deck) pack block buffer (takes_in (kinds_packs kinds d))) written (stored_deck new stores keeps);
+          after = subst⁻¹ (λ d. packs_of_kinds kinds d ≡ after_store (packs_of_kinds kinds deck) pack block buffer (takes_in (packs_of_kinds kinds d))) written (stored_deck new stores keeps);
           cards = written ∙ sym put ∙ ap (λ r. deck_left r deck pack block buffer) accepted;
         }
 
@@ -117,7 +117,7 @@ module _ (kinds : List (Option Kind)) (deck : List Card) (pack block : ℕ) (buf
   -- without a card and with none free the store is refused
   pub refused_full : None ≡ position (is_of pack block) deck → None ≡ position is_free deck → StoredAs kinds deck pack block buffer (Err NotTaking) deck
   refused_full none no_room =
-      let shelf = kinds_packs kinds deck in
+      let shelf = packs_of_kinds kinds deck in
       let full = ap (λ o. (on_card (is_some (find is_free deck)) o).takes) (nowhere (is_of pack block) deck (sym none)) ∙ ap is_some (nowhere is_free deck (sym no_room)) in
       let refused = sym (store_there (card_kinds kinds) (card_sector deck) pack block buffer long there ∙ ap (λ b. cond b (Ok tt) (Err NotTaking)) full) in
       record {

@@ -1,15 +1,17 @@
 -- A store into the slice of a flat shelf is a store on the shelf.
-use Rattle.std.proofs.Common.{◌≡◌, ℕ, zero, suc, ◌+◌, ◌-◌, ◌*◌, ◌<◌, ◌≤◌, Bool, true, false, cond, ◌&&◌, eqb, ◌⊎◌, List, [], ◌∷◌, ◌++◌, length, get_or, take, drop, Some, None, Ok, Option, sym, refl, ap, ◌∙◌, inl, inr, ⊎_elim, arith}
+use Rattle.std.proofs.Common.{◌≡◌, ℕ, zero, suc, ◌+◌, ◌-◌, ◌*◌, ◌<◌, ◌≤◌, Bool, true, false, cond, ◌&&◌, eqb, ◌⊎◌, List, [], ◌∷◌, ◌++◌, length, get_or, take, drop, Some, None, Ok, Err, Option, Result, sym, refl, ap, ◌∙◌, inl, inr, ⊎_elim, arith}
 use Rattle.std.specs.List.{slice_get}
-use Rattle.std.proofs.lemmas.List.{length-append, length-take, length-drop, drop-drop, drop_at, take_at, get_or-take, get_or-drop, get_or_append_left, get_or-append_right, same_lists}
+use Rattle.std.specs.Result.{result_and}
+use Rattle.std.proofs.lemmas.List.{length-append, length-take, length-drop, drop_at, take_at, get_or-take, get_or-drop, get_or_append_left, get_or-append_right, same_lists}
 use Rattle.std.proofs.lemmas.Bool.{ltb-true, eqb-true, eqb-false, and_parts, and_cases, cases_lt, false≢true}
 use Rattle.media.specs.Kinds.{blocks_of}
 use Rattle.media.specs.Marks.{clean}
 use Rattle.media.specs.Shelf.{Sector, has_block, sector_check, after_store, takes_in}
-use Rattle.shelves.specs.Flat.{whole_pack, flat_sector, kind_packs, replaced}
+use Rattle.shelves.specs.Flat.{whole_pack, flat_sector, packs_of_kind, replaced}
 use Rattle.shelves.proofs.Sectors.{passed}
 use Rattle.media.proofs.Shelves.{after_there, stored_shelf}
 use Rattle.media.specs.declared.kinds.Kind.{Kind}
+use Rattle.media.specs.declared.shelf.ShelfRefusal.{ShelfRefusal}
 
 in_pack : (k : Kind) (whole : Bool) (pack block : ℕ) → has_block (cond whole (k ∷ []) []) pack block ≡ true → (whole ≡ true) × (pack ≡ 0) × (block < blocks_of k)
 in_pack k true zero block there = (refl, refl, ltb-true _ _ there)
@@ -50,6 +52,11 @@ module _ (slice buffer : List ℕ) (start : ℕ) (long : length buffer ≡ 128) 
       let at : (xs : List ℕ) → get_or (take 128 (drop n xs)) k d ≡ get_or xs (n + k) d = λ xs. get_or-take 128 (drop n xs) k d below ∙ get_or-drop n xs k d in
       at new ∙ outside (n + k) d (⊎_elim (λ a. inl (omega arith)) (λ a. inr (omega arith)) apart) ∙ sym (at slice))
 
+-- a start that is answered is that of a sector that nothing is refused of
+pub started : (checked : Result (Unit {0}) ShelfRefusal) (start n : ℕ) → Ok start ≡ result_and checked (Ok n) → (Ok tt ≡ checked) × (start ≡ n)
+started (Ok tt) start n e = (refl, cc)
+started (Err why) start n e = cc
+
 -- A store that is not refused.
 module _ (kind : Option Kind) (slice : List ℕ) (pack block : ℕ) (buffer : List ℕ) (checked : Ok tt ≡ sector_check (slice_get (whole_pack slice kind) pack) block buffer) where
   there : has_block (whole_pack slice kind) pack block ≡ true
@@ -78,7 +85,7 @@ module _ (kind : Option Kind) (slice : List ℕ) (pack block : ℕ) (buffer : Li
       (λ e. let ne = eqb-false b block e in ⊎_elim (λ (l : b < block). inl (omega arith)) (λ (l : block ≤ b). inr (omega arith)) (cases_lt b block))
       (and_cases (eqb p pack) (eqb b block) other)
 
-  pub stored_flat : (slice' : List ℕ) → slice' ≡ replaced (Ok tt) slice block buffer → kind_packs kind slice' ≡ after_store (kind_packs kind slice) pack block buffer (takes_in (kind_packs kind slice'))
+  pub stored_flat : (slice' : List ℕ) → slice' ≡ replaced (Ok tt) slice block buffer → packs_of_kind kind slice' ≡ after_store (packs_of_kind kind slice) pack block buffer (takes_in (packs_of_kind kind slice'))
   unfolding new
   stored_flat slice' is =
       let sector : List ℕ → Sector = λ ws. record { words = ws; mark = clean; takes = true } in

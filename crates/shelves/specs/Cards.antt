@@ -40,16 +40,16 @@ abbrev pub card_sector : List Card → ℕ → ℕ → Sector
 card_sector deck pack block = on_card (is_some (find is_free deck)) (find (is_of pack block) deck)
 
 -- What a card shelf means, by the kinds of its packs.
-abbrev pub kinds_packs : List (Option Kind) → List Card → Packs
-kinds_packs kinds deck = shelf_of (card_kinds kinds) (card_sector deck)
+abbrev pub packs_of_kinds : List (Option Kind) → List Card → Packs
+packs_of_kinds kinds deck = shelf_of (card_kinds kinds) (card_sector deck)
 
 -- What a card shelf means, by the numbers of its kinds.
 abbrev pub card_packs : List ℕ → List Card → Packs
-card_packs numbers deck = kinds_packs (map kind_of numbers) deck
+card_packs numbers deck = packs_of_kinds (map kind_of numbers) deck
 
 -- What this card shelf means, by the cards that it was lent.
 abbrev pub card_meaning : CardShelf → Packs
-card_meaning shelf = kinds_packs shelf.kinds shelf.cards.now
+card_meaning shelf = packs_of_kinds shelf.kinds shelf.cards.now
 
 -- The first card that passes a test, changed.
 abbrev pub change_first : (Card → Bool) → (Card → Card) → List Card → List Card
@@ -80,4 +80,4 @@ deck_left (Err _) deck pack block buffer = deck
 
 -- The cards after a store.
 abbrev pub card_after : List (Option Kind) → List Card → ℕ → ℕ → List ℕ → List Card
-card_after kinds deck pack block buffer = deck_left (store_reply (kinds_packs kinds deck) pack block buffer) deck pack block buffer
+card_after kinds deck pack block buffer = deck_left (store_reply (packs_of_kinds kinds deck) pack block buffer) deck pack block buffer

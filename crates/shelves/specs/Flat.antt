@@ -17,16 +17,16 @@ abbrev pub flat_sector : List ℕ → ℕ → Sector
 flat_sector slice block = record { words = take 128 (drop (block * 128) slice); mark = clean; takes = true }
 
 -- What a flat shelf means, by the kind of its pack, if it has one.
-abbrev pub kind_packs : Option Kind → List ℕ → Packs
-kind_packs kind slice = shelf_of (whole_pack slice kind) (λ _ block. flat_sector slice block)
+abbrev pub packs_of_kind : Option Kind → List ℕ → Packs
+packs_of_kind kind slice = shelf_of (whole_pack slice kind) (λ _ block. flat_sector slice block)
 
 -- What a flat shelf means, by the number of its kind.
 abbrev pub flat_packs : ℕ → List ℕ → Packs
-flat_packs number slice = kind_packs (kind_of number) slice
+flat_packs number slice = packs_of_kind (kind_of number) slice
 
 -- What this flat shelf means, by the slice that it was lent.
 abbrev pub flat_meaning : FlatShelf → Packs
-flat_meaning shelf = kind_packs shelf.kind shelf.words.now
+flat_meaning shelf = packs_of_kind shelf.kind shelf.words.now
 
 -- The slice that a store leaves by its reply: the sector's words are replaced, or nothing is where the store is refused.
 abbrev pub replaced : Result (Unit {0}) ShelfRefusal → List ℕ → ℕ → List ℕ → List ℕ
@@ -35,4 +35,4 @@ replaced (Err _) slice block buffer = slice
 
 -- The slice after a store.
 abbrev pub flat_after : Option Kind → List ℕ → ℕ → ℕ → List ℕ → List ℕ
-flat_after kind slice pack block buffer = replaced (store_reply (kind_packs kind slice) pack block buffer) slice block buffer
+flat_after kind slice pack block buffer = replaced (store_reply (packs_of_kind kind slice) pack block buffer) slice block buffer

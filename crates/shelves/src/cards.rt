@@ -5,7 +5,7 @@ ghost use Rattle.std.specs.Option.{option_copied};
 ghost use Rattle.shelves.specs.Cards.{is_of, is_free, overwritten, claimed, card_kinds, card_packs, card_meaning, card_after};
 ghost use Rattle.shelves.specs.Laws.{card_lawful};
 ghost use Rattle.media.specs.Kinds.{kind_of};
-ghost use Rattle.media.specs.Shelf.{store_reply, after_store, takes_in};
+ghost use Rattle.media.specs.Shelf.{sector_check, store_reply, after_store, takes_in};
 
 use media::kinds::Kind;
 use media::marks::Mark;
@@ -14,6 +14,7 @@ use media::shelf::{SECTOR_WORDS, Shelf, ShelfRefusal, check_sector};
 /// The pack number of a card that is free.
 pub const FREE: u8 = 255;
 
+// A card is a plain record of numbers by a rule of the project, so a free one has a pack number and its mark is the raw number.
 /// One sector: its pack, its block, its mark, of which only the two low bits count, and its words. A card with pack 255 is free.
 #[derive(Clone, Copy, PartialEq, Eq, Debug)]
 pub struct Card {
@@ -103,6 +104,13 @@ impl<'a> CardShelf<'a> {
         self.kinds.iter().take_while(|kind| kind.is_some()).count()
     }
 
+    // Refuses a buffer that has not 128 words, then a sector that is not there.
+    fn check(&self, pack: u8, block: u16, buffer: &[u16]) -> Result<(), ShelfRefusal>
+        ensures { result ≡ sector_check (slice_get (card_kinds self.now.kinds) pack) block buffer.now }
+    {
+        check_sector(self.kind_at(pack), block, buffer)
+    }
+
     // The card of a sector, if it has one.
     fn card(&self, pack: u8, block: u16) -> Option<&Card>
         ensures { option_copied result ≡ find (is_of pack block) self.now.cards.now }
@@ -139,7 +147,7 @@ impl Shelf for CardShelf<'_> {
     }
 
     fn fetch(&self, pack: u8, block: u16, buffer: &mut [u16]) -> Result<Mark, ShelfRefusal> {
-        check_sector(self.kind_at(pack), block, buffer)?;
+        self.check(pack, block, buffer)?;
         match self.card(pack, block) {
             Some(card) => {
                 buffer.copy_from_slice(&card.words);
@@ -158,7 +166,7 @@ impl Shelf for CardShelf<'_> {
         ensures lender { self.new.cards.ghost_name ≡ self.old.cards.ghost_name }
         ensures deck { self.new.cards.now ≡ card_after self.old.kinds self.old.cards.now pack block buffer.now }
     {
-        check_sector(self.kind_at(pack), block, buffer)?;
+        self.check(pack, block, buffer)?;
         if let Some(i) = self.place(pack, block) {
             self.cards[i].overwrite(buffer);
         } else if let Some(i) = self.free_place() {

@@ -1,10 +1,11 @@
 // A shelf of one pack in a slice of words.
-ghost use Rattle.std.specs.Prelude.{◌≡◌};
+ghost use Rattle.std.specs.Prelude.{◌≡◌, ◌*◌, Ok};
 ghost use Rattle.std.specs.List.{slice_get};
 ghost use Rattle.std.specs.Option.{option_to_list};
+ghost use Rattle.std.specs.Result.{result_and};
 ghost use Rattle.shelves.specs.Laws.{flat_lawful};
 ghost use Rattle.shelves.specs.Flat.{whole_pack, flat_packs, flat_meaning, flat_after};
-ghost use Rattle.media.specs.Shelf.{store_reply, after_store, takes_in};
+ghost use Rattle.media.specs.Shelf.{sector_check, store_reply, after_store, takes_in};
 
 use media::kinds::Kind;
 use media::marks::Mark;
@@ -24,16 +25,17 @@ impl<'a> FlatShelf<'a> {
         ensures meaning { flat_meaning result ≡ flat_packs kind words.old }
         ensures lent { result.words ≡ words.entry }
     {
-        let kind = Kind::try_from(kind).ok();
-        FlatShelf { kind, words }
+        FlatShelf {
+            kind: Kind::try_from(kind).ok(),
+            words,
+        }
     }
 
     // The kind of the one pack, where the slice has just its words.
     fn whole(&self) -> Option<Kind>
         ensures { option_to_list result ≡ whole_pack self.now.words.now self.now.kind }
     {
-        self.kind
-            .filter(|kind| self.words.len() == usize::from(kind.blocks()) * SECTOR_WORDS)
+        self.kind.filter(|kind| self.words.len() == usize::from(kind.blocks()) * SECTOR_WORDS)
     }
 
     // The kind of a pack, if there is such a pack.
@@ -41,6 +43,14 @@ impl<'a> FlatShelf<'a> {
         ensures { result ≡ slice_get (whole_pack self.now.words.now self.now.kind) pack }
     {
         self.whole().filter(|_| pack == 0)
+    }
+
+    // Where a sector's words begin, unless the buffer or the sector is refused.
+    fn start(&self, pack: u8, block: u16, buffer: &[u16]) -> Result<usize, ShelfRefusal>
+        ensures { result ≡ result_and (sector_check (slice_get (whole_pack self.now.words.now self.now.kind) pack) block buffer.now) (Ok (block * 128)) }
+    {
+        check_sector(self.kind_at(pack), block, buffer)?;
+        Ok(usize::from(block) * SECTOR_WORDS)
     }
 }
 
@@ -58,10 +68,8 @@ impl Shelf for FlatShelf<'_> {
     }
 
     fn fetch(&self, pack: u8, block: u16, buffer: &mut [u16]) -> Result<Mark, ShelfRefusal> {
-        check_sector(self.kind_at(pack), block, buffer)?;
-        let from = usize::from(block) * SECTOR_WORDS;
-        let words = &*self.words;
-        buffer.copy_from_slice(&words[from..from + SECTOR_WORDS]);
+        let from = self.start(pack, block, buffer)?;
+        buffer.copy_from_slice(&self.words[from..from + SECTOR_WORDS]);
         Ok(Mark::CLEAN)
     }
 
@@ -71,10 +79,8 @@ impl Shelf for FlatShelf<'_> {
         ensures lender { self.new.words.ghost_name ≡ self.old.words.ghost_name }
         ensures slice { self.new.words.now ≡ flat_after self.old.kind self.old.words.now pack block buffer.now }
     {
-        check_sector(self.kind_at(pack), block, buffer)?;
-        let to = usize::from(block) * SECTOR_WORDS;
-        let words = &mut *self.words;
-        words[to..to + SECTOR_WORDS].copy_from_slice(buffer);
+        let to = self.start(pack, block, buffer)?;
+        self.words[to..to + SECTOR_WORDS].copy_from_slice(buffer);
         Ok(())
     }
 }
