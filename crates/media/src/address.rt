@@ -42,6 +42,7 @@ impl From<UnknownKind> for AddressRefusal {
     }
 }
 
+// A kind is given by its number here, since a number that is no kind's is refused: the type Kind would ask more of callers.
 impl Place {
     /// The block number, on a pack of the kind with this number.
     pub fn block(self, kind: u8) -> Result<u16, AddressRefusal>
@@ -148,6 +149,7 @@ pub fn check_word(header: u16) -> u16
 fn run_word(mut crc: u16, mut word: u16) -> u16
     ensures { result ≡ crc_over crc (word_bits word) }
 {
+    // Bit after bit, by shifts and masks, as the rule of the check word has it.
     for _turn in 0..u16::BITS {
         crc = run_bit(crc, word & 1);
         word >>= 1;
