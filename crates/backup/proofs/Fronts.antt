@@ -3,7 +3,7 @@ use Rattle.std.proofs.Common.{◌≡◌, ℕ, ◌+◌, ◌<◌, Bool, true, fals
 use mathlib.Core.Path.{subst⁻¹, fun_ext}
 use Rattle.std.specs.List.{slice_get}
 use Rattle.std.specs.Option.{option_map}
-use Rattle.std.proofs.lemmas.Bool.{and_parts, eqb-true, lt-ltb, cases_Bool, cases_eq, cond-false, false≢true}
+use Rattle.std.proofs.lemmas.Bool.{and_parts, eqb-true, lt-ltb, cases_Bool, cases_eq, false≢true}
 use Rattle.std.proofs.lemmas.Bool.Decides.{nat_tests}
 use Rattle.media.specs.Kinds.{kind_number, blocks_of}
 use Rattle.media.specs.Marks.{clean, is_clean}
