@@ -1,6 +1,6 @@
 // Where a sector lies on a pack, and the numbers that name it.
 ghost use Rattle.std.specs.Prelude.{◌≡◌, IfOk, Ok};
-ghost use Rattle.media.specs.Address.{address_refusal_number, on_pack, for_kind, or_no_sector, block_reply, header_reply, place_of_block, place_of_header, crc_step, crc_over, word_bits, check_of};
+ghost use Rattle.media.specs.Address.{address_refusal_number, on_pack, or_no_sector, block_reply, header_reply, place_of_block, place_of_header, crc_step, crc_over, word_bits, check_of};
 ghost use Rattle.media.specs.declared.address.AddressRefusal.TheVariants.{NoSector};
 
 use crate::kinds::{HEADS, Kind, SECTORS, UnknownKind};
@@ -49,7 +49,7 @@ impl Place {
         ensures reply { result ≡ block_reply kind self }
         ensures back { IfOk result (λ b. place_of_block kind b ≡ Ok self) }
     {
-        self.check(kind)?;
+        self.check(Kind::try_from(kind)?)?;
         Ok((self.cylinder * HEADS + self.head as u16) * SECTORS + self.sector as u16)
     }
 
@@ -58,7 +58,7 @@ impl Place {
         ensures reply { result ≡ header_reply kind self }
         ensures back { IfOk result (λ w. place_of_header kind w ≡ Ok self) }
     {
-        self.check(kind)?;
+        self.check(Kind::try_from(kind)?)?;
         Ok(self.cylinder << 7 | (self.head as u16) << 6 | self.sector as u16)
     }
 
@@ -88,15 +88,14 @@ impl Place {
             head: (header >> 6 & 1) as u8,
             sector: (header & 0o77) as u8,
         };
-        place.check(kind)?;
+        place.check(Kind::try_from(kind)?)?;
         Ok(place)
     }
 
-    // Refuses a place that a pack of the kind with this number lacks.
-    fn check(self, kind: u8) -> Result<(), AddressRefusal>
-        ensures { result ≡ or_no_sector (for_kind kind (λ k. on_pack k self)) tt }
+    // Refuses a place that a pack of this kind lacks.
+    fn check(self, kind: Kind) -> Result<(), AddressRefusal>
+        ensures { result ≡ or_no_sector (on_pack kind self) tt }
     {
-        let kind = Kind::try_from(kind)?;
         if self.cylinder < kind.cylinders()
             && (self.head as u16) < HEADS
             && (self.sector as u16) < SECTORS
