@@ -39,7 +39,7 @@ impl State {
     fn selected(&self) -> Drive
         ensures { result ≡ selected self.now }
     {
-        self.drives[(self.registers.command.unit % 4) as usize]
+        self.drives[usize::from(self.registers.command.unit % 4)]
     }
 
     // The fields of the control and status register.
