@@ -97,6 +97,7 @@ impl Drive {
         }
     }
 
+    // One `match` on the state together with the event, a rule of the project for the drive.
     /// A press or a tick.
     pub(crate) fn act(&mut self, event: Event)
         ensures { self.new ≡ after_event event self.old }
@@ -236,6 +237,7 @@ impl Drive {
         self.state == DriveState::Brush
     }
 
+    // By shifts and `|`, a rule of the project for words of fields.
     /// The status word.
     pub(crate) fn status_word(&self) -> u16
         ensures { result ≡ status_word self.now }

@@ -50,7 +50,7 @@ impl Head {
 }
 
 impl SeekOrder {
-    // A named method, which says what the word is; it answers an option, as no reason is wanted where there is none.
+    // A named method, which says what the word is, and answers an option: a word that orders no seek is no error.
     /// The seek in a disk address; none unless its bit 0 is set and its bits 1, 3, 5 and 6 are clear.
     pub(crate) fn from_disk_address(word: u16) -> Option<SeekOrder>
         ensures { result ≡ seek_order word }
@@ -75,6 +75,7 @@ fn is_seek(word: u16) -> bool
 }
 
 impl StatusOrder {
+    // A named method that answers an option, as that of a seek.
     /// The order in the low byte of a disk address: 3 or 0o13, else none.
     pub(crate) fn from_disk_address(word: u16) -> Option<StatusOrder>
         ensures { result ≡ status_order word }

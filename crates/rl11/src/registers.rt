@@ -94,6 +94,7 @@ pub struct Registers {
 }
 
 impl Register {
+    // A named method, which answers an option: an address without a register is no error, as memory may lie there.
     /// The register at a bus address.
     pub(crate) fn at(address: u32) -> Option<Register>
         ensures { result ≡ register_at address }
@@ -170,6 +171,7 @@ impl ControlStatus {
     }
 }
 
+// By shifts, masks and `|`, a rule of the project for words of fields.
 /// The word that has these fields; its bit 15 is set where any of bits 10 to 14 is.
 impl From<ControlStatus> for u16 {
     ghost from_gives = { IsControlWord };
@@ -190,6 +192,7 @@ impl From<ControlStatus> for u16 {
     }
 }
 
+// By shifts and masks, a rule of the project for words of fields.
 /// The fields of a word.
 impl From<u16> for ControlStatus {
     ghost use Rattle.rl11.specs.Registers.{HasControlFields};
