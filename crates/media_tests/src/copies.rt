@@ -19,13 +19,7 @@ const NO_CARD: Card = Card {
 };
 
 // A pack that is the same all over, copied to the first pack of a shelf, which declines.
-fn stops<T: Shelf>(
-    rt: &impl Abort,
-    heap: Global,
-    kind: Kind,
-    to: &mut T,
-    why: CopyError,
-) {
+fn stops<T: Shelf>(rt: &impl Abort, heap: Global, kind: Kind, to: &mut T, why: CopyError) {
     let source = Stamp::new(kind, [7; SECTOR_WORDS], Mark::CLEAN);
     assert_eq!(rt; copy_pack(heap, &source, 0, to, 0).err(), Some(why));
 }

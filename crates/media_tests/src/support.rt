@@ -42,12 +42,7 @@ pub(super) fn writes<M: BusMemory>(
 }
 
 /// A read and a write at an address are refused with this number.
-pub(super) fn no_word<M: BusMemory>(
-    rt: &impl Abort,
-    memory: &mut M,
-    address: u32,
-    number: u8,
-) {
+pub(super) fn no_word<M: BusMemory>(rt: &impl Abort, memory: &mut M, address: u32, number: u8) {
     assert_eq!(rt; memory.read(address).map_err(u8::from), Err(number));
     assert_eq!(rt; memory.write(address, 0o123).map_err(u8::from), Err(number));
 }

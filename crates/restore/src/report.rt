@@ -24,9 +24,7 @@ fn say_skipped(rt: &impl Print, kind: Kind, left: &LeftOut) -> anyhow::Result<()
     let place = Place::from_block(u8::from(kind), block)?;
     let header = place.header(u8::from(kind))?;
     let check = check_word(header);
-    println!(rt;
-        "  block {block} ({place}), header {header:06o}, check word {check:06o}: {mark}"
-    )?;
+    println!(rt; "  block {block} ({place}), header {header:06o}, check word {check:06o}: {mark}")?;
     Ok(())
 }
 

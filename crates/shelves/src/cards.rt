@@ -14,8 +14,8 @@ use media::shelf::{SECTOR_WORDS, Shelf, ShelfRefusal, check_sector};
 /// The pack number of a card that is free.
 pub const FREE: u8 = 255;
 
-// A card is a plain record of numbers by a rule of the project, so a free one has a pack number and its mark is the raw number.
 /// One sector: its pack, its block, its mark, of which only the two low bits count, and its words. A card with pack 255 is free.
+// By a rule of the project a card is a plain record of numbers: a free one has a number for its pack, and the mark is a number.
 #[derive(Clone, Copy, PartialEq, Eq, Debug)]
 pub struct Card {
     pub pack: u8,
@@ -90,6 +90,7 @@ impl<'a> CardShelf<'a> {
     fn kind_at(&self, pack: u8) -> Option<Kind>
         ensures { result ≡ slice_get (card_kinds self.now.kinds) pack }
     {
+        // With `get` on the places before `packs`, or with `filter`, the check did not find the proof.
         if usize::from(pack) < self.packs() {
             self.kinds[usize::from(pack)]
         } else {
