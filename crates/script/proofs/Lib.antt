@@ -4,3 +4,4 @@ pub mod Feeds
 pub mod Plans
 pub mod Runs
 pub mod Spaces
+pub mod Spellings

@@ -5,7 +5,7 @@ ghost use Rattle.script.specs.Numbers.{radix_of, digit_of, number_of};
 use crate::faults::Fault;
 
 /// How a number is written.
-#[derive(Clone, Copy)]
+#[derive(Clone, Copy, PartialEq, Eq, Debug)]
 pub(crate) enum Base {
     Octal,
     Decimal,

@@ -2,7 +2,7 @@
 ghost use Rattle.std.specs.Prelude.{◌≡◌, ◌++◌, Ok};
 ghost use Rattle.script.specs.Arguments.{and_then};
 ghost use Rattle.script.specs.Scripts.{plan_of, empty_plan, bench_of, settled, with_drives, with_shelf, with_memory, with_card, with_pokes, with_step, told_of, poked, poke_lines, set_up, line_added, script_of, Reported, ReadSo};
-ghost use Rattle.script.specs.Words.{words_left, line_words, others_of};
+ghost use Rattle.script.specs.Words.{line_words, others_of};
 ghost use Rattle.script.specs.declared.scripts.LineError.TheVariants as line_error;
 
 use crate::echoes::echo;
@@ -260,7 +260,7 @@ fn push_pokes(
     number: usize,
     address: u32,
 ) -> Result<(), LineError>
-    ensures { Reported (and_then (poked number address (words_left words.old)) (λ ps. Ok (pokes.old.items ++ ps))) result pokes.new.items }
+    ensures { Reported (and_then (poked number address words.old) (λ ps. Ok (pokes.old.items ++ ps))) result pokes.new.items }
 {
     let mut at = address;
     while !words.is_empty() {

@@ -1,11 +1,10 @@
 // How a script sets a bench up.
 ghost use Rattle.std.specs.Prelude.{◌≡◌};
 ghost use Rattle.script.specs.Setup.{drives_setup, flat_setup, cards_setup, shelf_setup, filled, card_setup, poke_setup, board_setup, stack_setup};
-ghost use Rattle.script.specs.Words.{words_left};
 
 use crate::faults::Fault;
 use crate::numbers::Base;
-use crate::words::{Words, same};
+use crate::words::Words;
 
 /// How many words a card holds.
 pub const CARD_WORDS: usize = 128;
@@ -38,7 +37,7 @@ pub enum MemorySetup {
 }
 
 /// A line of a script that sets the bench up.
-#[derive(Clone, Copy)]
+#[derive(Clone, Copy, PartialEq, Eq, Debug)]
 pub(crate) enum Setup {
     /// The kinds of the four units.
     Drives([u8; 4]),
@@ -52,7 +51,7 @@ pub(crate) enum Setup {
 
 /// The kinds of the four units.
 pub(crate) fn take_drives(words: &mut Words) -> Result<Setup, Fault>
-    ensures { result ≡ drives_setup (words_left words.old) }
+    ensures { result ≡ drives_setup words.old }
 {
     let first = words.take_u8()?;
     let second = words.take_u8()?;
@@ -63,7 +62,7 @@ pub(crate) fn take_drives(words: &mut Words) -> Result<Setup, Fault>
 
 /// A flat shelf: its kind.
 pub(crate) fn take_flat(words: &mut Words) -> Result<Setup, Fault>
-    ensures { result ≡ flat_setup (words_left words.old) }
+    ensures { result ≡ flat_setup words.old }
 {
     let kind = words.take_u8()?;
     words.close(Setup::Shelf(ShelfSetup::Flat { kind }))
@@ -71,23 +70,18 @@ pub(crate) fn take_flat(words: &mut Words) -> Result<Setup, Fault>
 
 /// A shelf of either make.
 pub(crate) fn take_shelf(words: &mut Words) -> Result<Setup, Fault>
-    ensures { result ≡ shelf_setup (words_left words.old) }
+    ensures { result ≡ shelf_setup words.old }
 {
-    let Some(make) = words.next() else {
-        return Err(Fault::MissingWord);
-    };
-    if same(make, b"flat") {
-        take_flat(words)
-    } else if same(make, b"cards") {
-        take_cards(words)
-    } else {
-        Err(Fault::UnknownWord)
+    match words.next_word()? {
+        b"flat" => take_flat(words),
+        b"cards" => take_cards(words),
+        _ => Err(Fault::UnknownWord),
     }
 }
 
 /// A card shelf: its eight kinds, and its room.
 pub(crate) fn take_cards(words: &mut Words) -> Result<Setup, Fault>
-    ensures { result ≡ cards_setup (words_left words.old) }
+    ensures { result ≡ cards_setup words.old }
 {
     let kinds = [
         words.take_u8()?,
@@ -106,7 +100,7 @@ pub(crate) fn take_cards(words: &mut Words) -> Result<Setup, Fault>
 
 // The words of a card, of which those that the line does not give are zero.
 fn take_contents(words: &mut Words) -> Result<[u16; CARD_WORDS], Fault>
-    ensures { result ≡ filled 128 (words_left words.old) }
+    ensures { result ≡ filled 128 words.old }
 {
     let mut contents = [0; CARD_WORDS];
     for place in contents.iter_mut() {
@@ -120,7 +114,7 @@ fn take_contents(words: &mut Words) -> Result<[u16; CARD_WORDS], Fault>
 
 /// A card: a pack, a block, a mark and words.
 pub(crate) fn take_card(words: &mut Words) -> Result<Setup, Fault>
-    ensures { result ≡ card_setup (words_left words.old) }
+    ensures { result ≡ card_setup words.old }
 {
     let pack = words.take_u8()?;
     let block = words.take_u16(Base::Decimal)?;
@@ -136,7 +130,7 @@ pub(crate) fn take_card(words: &mut Words) -> Result<Setup, Fault>
 
 /// A board: how many words it has.
 pub(crate) fn take_board(words: &mut Words) -> Result<Setup, Fault>
-    ensures { result ≡ board_setup (words_left words.old) }
+    ensures { result ≡ board_setup words.old }
 {
     let count = words.take_number(Base::Decimal, u32::MAX)?;
     words.close(Setup::Memory(MemorySetup::Board { words: count }))
@@ -144,7 +138,7 @@ pub(crate) fn take_board(words: &mut Words) -> Result<Setup, Fault>
 
 /// Words for memory: the address of the first.
 pub(crate) fn take_poke(words: &mut Words) -> Result<Setup, Fault>
-    ensures { result ≡ poke_setup (words_left words.old) }
+    ensures { result ≡ poke_setup words.old }
 {
     let address = words.take_number(Base::Octal, u32::MAX)?;
     Ok(Setup::Poke { address })
@@ -152,7 +146,7 @@ pub(crate) fn take_poke(words: &mut Words) -> Result<Setup, Fault>
 
 /// A stack of two boards: the border, and how many words each has.
 pub(crate) fn take_stack(words: &mut Words) -> Result<Setup, Fault>
-    ensures { result ≡ stack_setup (words_left words.old) }
+    ensures { result ≡ stack_setup words.old }
 {
     let border = words.take_number(Base::Octal, u32::MAX)?;
     let lower = words.take_number(Base::Decimal, u32::MAX)?;
