@@ -156,6 +156,11 @@ finished (Err e) = Err e
 abbrev pub script_of : List ℕ → Result Bench LineFault
 script_of text = finished (read_from 0 empty_plan (lines_of text))
 
+-- The error of a line of this number.
+abbrev pub error_at : ℕ → LineError → ScriptError
+error_at n (line_error.Fault f) = script_error.Line (record { line = n; fault = f })
+error_at n line_error.NoMemory = script_error.NoMemory
+
 -- A part of a script is added as wanted, or its fault is told, or there is no memory.
 abbrev pub Reported : {X : Type 0} → Result X Fault → Result (Unit {0}) LineError → X → Type 0
 Reported want (Ok _) x = want ≡ Ok x

@@ -6,7 +6,7 @@ ghost use Rattle.script.specs.declared.faults.Fault.TheVariants.{MissingWord};
 ghost use Rattle.script.specs.declared.numbers.Base.TheVariants.{Decimal};
 
 use crate::faults::Fault;
-use crate::numbers::{Base, number};
+use crate::numbers::{Base, number, number_u16};
 use crate::words::Words;
 
 impl<'a> Words<'a> {
@@ -32,7 +32,7 @@ impl<'a> Words<'a> {
         ensures value { result ≡ argument base 65535 self.old }
         ensures left { self.new ≡ others_of self.old }
     {
-        Ok(self.take_number(base, u32::from(u16::MAX))? as u16)
+        number_u16(self.next_word()?, base)
     }
 
     /// Takes a word that writes a decimal number of 8 bits.

@@ -56,3 +56,10 @@ pub(crate) fn number(word: &[u8], base: Base, limit: u32) -> Result<u32, Fault>
     }
     Ok(value as u32)
 }
+
+/// The number of 16 bits that a word writes.
+pub(crate) fn number_u16(word: &[u8], base: Base) -> Result<u16, Fault>
+    ensures { result ≡ number_of base 65535 word.now }
+{
+    Ok(number(word, base, u32::from(u16::MAX))? as u16)
+}
