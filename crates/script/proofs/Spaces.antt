@@ -1,11 +1,10 @@
 -- A line told again word by word.
-use Rattle.std.proofs.Common.{◌≡◌, ℕ, ◌+◌, ◌<◌, Bool, true, false, not, ◌&&◌, eqb, List, [], ◌∷◌, ◌++◌, length, get_or, take, Some, None, sym, refl, ap, ◌∙◌, ⊎_elim, append_assoc, append-nil}
+use Rattle.std.proofs.Common.{◌≡◌, ℕ, Bool, true, false, not, ◌&&◌, eqb, List, [], ◌∷◌, ◌++◌, refl, ap, ⊎_elim, append_assoc}
 use lib.Utf8.{encode, encodes}
-use Rattle.std.proofs.lemmas.List.{take_more}
 use Rattle.std.proofs.lemmas.Str.{encodes-append}
 use Rattle.std.proofs.lemmas.Bool.{cases_Bool, false≢true, not-true, and_parts}
 use Rattle.script.specs.Echoes.{joined, spaced}
-use Rattle.script.specs.Words.{is_blank, begins_word, lengthened, words_of, line_words, first_of, others_of}
+use Rattle.script.specs.Words.{is_blank, begins_word, lengthened, words_of, line_words}
 
 -- a line whose first word is told
 pub told_first : (line ws : List (List ℕ)) (w s : List ℕ) → line ≡ w ∷ ws → s ≡ encodes w → encodes (joined line) ≡ s ++ encodes (spaced ws)

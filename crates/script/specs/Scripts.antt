@@ -167,6 +167,12 @@ Reported want (Ok _) x = want ≡ Ok x
 Reported want (Err (line_error.Fault f)) x = want ≡ Err f
 Reported want (Err line_error.NoMemory) x = Unit {0}
 
+-- A line is added as wanted, or its fault is told with its number, or there is no memory.
+abbrev pub AddedSo : Result Plan LineFault → Result (Unit {0}) ScriptError → Plan → Type 0
+AddedSo want (Ok _) p = want ≡ Ok p
+AddedSo want (Err (script_error.Line f)) p = want ≡ Err f
+AddedSo want (Err script_error.NoMemory) p = Unit {0}
+
 -- A script is read as wanted, or its first fault is told, or there is no memory.
 abbrev pub ReadSo : Result Bench LineFault → Result Script ScriptError → Type 0
 ReadSo want (Ok s) = want ≡ Ok (bench_of s)

@@ -1,7 +1,7 @@
 // A whole script.
 ghost use Rattle.std.specs.Prelude.{◌≡◌, ◌++◌, Some, None, Ok, IsSome, OnOk, IfErr};
 ghost use Rattle.script.specs.Arguments.{and_then};
-ghost use Rattle.script.specs.Scripts.{plan_of, empty_plan, bench_of, settled, with_pokes, with_step, told_of, poked, poke_lines, set_up, line_added, error_at, script_of, Reported, ReadSo};
+ghost use Rattle.script.specs.Scripts.{plan_of, empty_plan, bench_of, settled, with_pokes, with_step, told_of, poked, poke_lines, set_up, line_added, error_at, numbered, script_of, Reported, AddedSo, ReadSo};
 ghost use Rattle.script.specs.Words.{line_words, others_of};
 ghost use Rattle.script.specs.declared.faults.Fault.TheVariants.{SetupTwice};
 ghost use Rattle.script.specs.declared.scripts.LineError.TheVariants as line_error;
@@ -178,7 +178,7 @@ impl Draft {
         let _ = words.next();
         let _ = words.next();
         if words.is_empty() {
-            return Err(LineError::Fault(Fault::MissingWord));
+            return Err(Fault::MissingWord.into());
         }
         push_pokes(&mut self.pokes, &mut words, line.number, address)
     }
@@ -216,10 +216,18 @@ impl Draft {
     {
         match read_line(line.text)? {
             Line::Blank => Ok(()),
-            Line::Setup(_) if !self.steps.is_empty() => Err(Fault::LateSetup)?,
+            Line::Setup(_) if !self.steps.is_empty() => Err(Fault::LateSetup.into()),
             Line::Setup(setup) => self.add_setup(line, setup),
             Line::Step(step) => self.add_step(line, step),
         }
+    }
+
+    // Adds a line, whose error has its number.
+    fn add_numbered(&mut self, line: &SourceLine) -> Result<(), ScriptError>
+        ensures { AddedSo (numbered line.now.number (line_added line.now.number line.now.text.now (plan_of self.old)) Ok) result (plan_of self.new) }
+    {
+        let number = line.number;
+        self.add_line(line).map_err(|error| error.at(number))
     }
 }
 
@@ -267,7 +275,7 @@ pub fn read_script(heap: Global, text: &[u8]) -> Result<Script, ScriptError>
             number: at + 1,
             text,
         };
-        draft.add_line(&line).map_err(|error| error.at(line.number))?;
+        draft.add_numbered(&line)?;
     }
     Ok(draft.finish())
 }

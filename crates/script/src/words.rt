@@ -37,10 +37,7 @@ fn word_len(bytes: &[u8]) -> usize
     ensures value { result ≡ position_or_len is_blank bytes.now }
     ensures within { result ≤ length bytes.now }
 {
-    bytes
-        .iter()
-        .take_while(|byte| !is_blank(**byte))
-        .count()
+    bytes.iter().take_while(|byte| !is_blank(**byte)).count()
 }
 
 impl<'a> Words<'a> {

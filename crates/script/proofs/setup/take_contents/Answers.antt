@@ -1,7 +1,6 @@
 use Rattle.std.proofs.Common.{Ok, sym, ap, ◌∙◌, arith}
 use lib.Seq.{set-get_or}
 use Rattle.std.proofs.lemmas.Result.{err_from_is_err_and}
-
 use Rattle.script.proofs.Contents.{again, stopped, broken, full}
 use Rattle.script.proofs.setup.take_contents.Goals as goal
 

@@ -1,6 +1,5 @@
 use Rattle.std.proofs.Common.{◌≡◌, ◌-◌, length, take, drop, replicate}
 use Rattle.script.specs.Setup.{filled}
-
 use Rattle.script.proofs.Contents.{after}
 use Rattle.script.proofs.setup.take_contents.Given as goal
 

@@ -1,4 +1,4 @@
-use Rattle.std.proofs.Common.{sym, ap, ◌∙◌}
+use Rattle.std.proofs.Common.{ap, ◌∙◌}
 use Rattle.script.specs.Words.{none_left}
 use Rattle.script.proofs.Runs.{is_none_left}
 use Rattle.script.proofs.words.Words.is_empty.Goals as goal

@@ -1,4 +1,4 @@
-use Rattle.std.proofs.Common.{◌≡◌, ◌∷◌, ◌<◌, length, sym, ap, ◌∙◌, arith, rules}
+use Rattle.std.proofs.Common.{◌<◌, length, sym, ap, ◌∙◌, arith, rules}
 use Rattle.script.specs.Words.{words_of}
 use Rattle.script.proofs.Runs.{no_word, word_first}
 use Rattle.script.proofs.words.WordsIterator.next.Goals as goal
