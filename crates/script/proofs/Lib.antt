@@ -1,6 +1,7 @@
 pub mod Contents
 pub mod Digits
 pub mod Feeds
+pub mod KindsRead
 pub mod Plans
 pub mod Runs
 pub mod Spaces

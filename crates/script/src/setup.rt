@@ -1,6 +1,9 @@
 // How a script sets a bench up.
-ghost use Rattle.std.specs.Prelude.{◌≡◌};
-ghost use Rattle.script.specs.Setup.{drives_setup, flat_setup, cards_setup, shelf_setup, filled, card_setup, poke_setup, board_setup, stack_setup};
+ghost use Rattle.std.specs.Prelude.{◌≡◌, ℕ, List, Result};
+ghost use Rattle.script.specs.Arguments.{and_then};
+ghost use Rattle.script.specs.Setup.{with_kinds, drives_setup, flat_setup, roomy, cards_setup, shelf_setup, filled, card_setup, poke_setup, board_setup, stack_setup};
+ghost use Rattle.script.specs.declared.faults.Fault.{Fault};
+ghost use Rattle.script.specs.declared.setup.Setup.{Setup};
 
 use crate::faults::Fault;
 use crate::numbers::Base;
@@ -49,15 +52,23 @@ pub(crate) enum Setup {
     Poke { address: u32 },
 }
 
+// So many kinds. What is read after them, whatever it is, is read of the words that are left.
+fn take_kinds<const N: usize>(words: &mut Words) -> Result<[u8; N], Fault>
+    ensures { (f : List ℕ → List (List ℕ) → Result Setup Fault) → with_kinds N f words.old ≡ and_then result (λ kinds. f kinds words.new) }
+{
+    let mut kinds = [0; N];
+    for kind in kinds.iter_mut() {
+        *kind = words.take_u8()?;
+    }
+    Ok(kinds)
+}
+
 /// The kinds of the four units.
 pub(crate) fn take_drives(words: &mut Words) -> Result<Setup, Fault>
     ensures { result ≡ drives_setup words.old }
 {
-    let first = words.take_u8()?;
-    let second = words.take_u8()?;
-    let third = words.take_u8()?;
-    let fourth = words.take_u8()?;
-    words.close(Setup::Drives([first, second, third, fourth]))
+    let kinds = take_kinds(words)?;
+    words.close(Setup::Drives(kinds))
 }
 
 /// A flat shelf: its kind.
@@ -83,16 +94,14 @@ pub(crate) fn take_shelf(words: &mut Words) -> Result<Setup, Fault>
 pub(crate) fn take_cards(words: &mut Words) -> Result<Setup, Fault>
     ensures { result ≡ cards_setup words.old }
 {
-    let kinds = [
-        words.take_u8()?,
-        words.take_u8()?,
-        words.take_u8()?,
-        words.take_u8()?,
-        words.take_u8()?,
-        words.take_u8()?,
-        words.take_u8()?,
-        words.take_u8()?,
-    ];
+    let kinds = take_kinds(words)?;
+    take_room(words, kinds)
+}
+
+// The room of a card shelf of these kinds.
+fn take_room(words: &mut Words, kinds: [u8; 8]) -> Result<Setup, Fault>
+    ensures { result ≡ roomy kinds words.old }
+{
     words.take_word(b"room")?;
     let room = words.take_number(Base::Decimal, u32::MAX)?;
     words.close(Setup::Shelf(ShelfSetup::Cards { kinds, room }))
