@@ -1,9 +1,9 @@
 -- One sector more of a copy of a pack.
-use Rattle.std.proofs.Common.{◌≡◌, ℕ, ◌+◌, ◌<◌, Bool, true, false, cond, ◌&&◌, eqb, ltb, List, [], ◌∷◌, ◌++◌, is_some, Some, None, Ok, Err, Option, Result, unwrap_or, sym, refl, ap, ◌∙◌, ⊎_elim, append-nil, add-one, arith}
+use Rattle.std.proofs.Common.{◌≡◌, ℕ, ◌+◌, ◌<◌, Bool, true, false, cond, ◌&&◌, eqb, ltb, List, [], ◌∷◌, ◌++◌, is_some, Some, None, Ok, Err, Option, Result, unwrap_or, sym, refl, ap, inl, inr, ◌∙◌, ⊎_elim, append-nil, add-one, arith}
 use mathlib.Core.Path.{subst⁻¹, fun_ext}
 use Rattle.std.specs.List.{slice_get}
 use Rattle.std.specs.Option.{option_map}
-use Rattle.std.proofs.lemmas.Bool.{and_parts, eqb-true, lt-ltb, cases_Bool, cases_eq, cond-false, false≢true}
+use Rattle.std.proofs.lemmas.Bool.{and_parts, eqb-true, lt-ltb, cases_Bool, cases_eq, false≢true}
 use Rattle.std.proofs.lemmas.Bool.Decides.{nat_tests}
 use Rattle.media.specs.Kinds.{kind_number, blocks_of}
 use Rattle.media.specs.Marks.{clean, is_clean}
@@ -13,7 +13,9 @@ use Rattle.media.specs.declared.kinds.Kind.{Kind}
 use Rattle.media.specs.declared.marks.Mark.{Mark}
 use Rattle.media.specs.declared.shelf.ShelfRefusal.{ShelfRefusal}
 use Rattle.backup.specs.Copy.{copied, sector_reply, copy_reply, after_sector, after_copy}
-use Rattle.backup.specs.Whole.{one_kind, kinds_reply, mark_at, clean_at, copied_onto, copied_front, marked_blocks}
+use Rattle.backup.specs.Whole.{one_kind, kinds_reply, mark_at, clean_at, copied_onto, copied_front, marked_blocks, Stopped}
+use Rattle.backup.specs.declared.copy.CopyError.{CopyError}
+use Rattle.backup.specs.declared.copy.CopyError.TheVariants.{Declined, NoMemory}
 use Rattle.backup.specs.declared.copy.LeftOut.{LeftOut}
 use Rattle.backup.specs.declared.copy.Outcome.{Outcome}
 use Rattle.backup.specs.declared.copy.Outcome.TheVariants.{Copied, Skipped}
@@ -40,19 +42,19 @@ was_declined (Ok _) x e = cc
 was_declined (Err y) x e = cc
 
 never_skipped : (r : Result (Unit {0}) ShelfRefusal) (m : Mark) → copied r ≡ Ok (Skipped m) → ⊥
-never_skipped (Ok _) m e = let z : ◌≡◌ {A = ℕ} 0 1 = cc in omega arith
-never_skipped (Err x) m e = let z : ◌≡◌ {A = ℕ} 0 1 = cc in omega arith
+never_skipped (Ok _) m e = cc
+never_skipped (Err x) m e = cc
 
 was_copied : (o : Option Sector) (target : Packs) (q n : ℕ) → sector_reply o target q n ≡ Ok Copied → StoredFrom o target q n (Ok tt)
-was_copied None target q n e = let z : ◌≡◌ {A = ℕ} 0 1 = cc in absurd (omega arith)
+was_copied None target q n e = absurd (cc)
 was_copied (Some s) target q n e =
     ⊎_elim
     (λ unmarked. record { sector = s; there = refl; unmarked = unmarked; reply = was_stored (store_reply target q n s.words) (rw unmarked at e) })
-    (λ marked. let f = rw marked at e in let z : ◌≡◌ {A = ℕ} 0 1 = cc in absurd (omega arith))
+    (λ marked. let f = rw marked at e in absurd (cc))
     (cases_Bool (is_clean s.mark))
 
 was_skipped : (o : Option Sector) (target : Packs) (q n : ℕ) (m : Mark) → sector_reply o target q n ≡ Ok (Skipped m) → LeftFrom o m
-was_skipped None target q n m e = let z : ◌≡◌ {A = ℕ} 0 1 = cc in absurd (omega arith)
+was_skipped None target q n m e = absurd (cc)
 was_skipped (Some s) target q n m e =
     ⊎_elim
     (λ unmarked. absurd (never_skipped (store_reply target q n s.words) m (rw unmarked at e)))
@@ -64,7 +66,7 @@ was_refused None target q n x there e = absurd (false≢true there)
 was_refused (Some s) target q n x there e =
     ⊎_elim
     (λ unmarked. record { sector = s; there = refl; unmarked = unmarked; reply = was_declined (store_reply target q n s.words) x (rw unmarked at e) })
-    (λ marked. let f = rw marked at e in let z : ◌≡◌ {A = ℕ} 0 1 = cc in absurd (omega arith))
+    (λ marked. let f = rw marked at e in absurd (cc))
     (cases_Bool (is_clean s.mark))
 
 pub not_skipped : (o : Outcome) → ((m : Mark) → o ≡ Skipped m → ⊥) → o ≡ Copied
@@ -95,10 +97,6 @@ not_counted a block n r none =
 abbrev taking_of : Option Sector → Bool
 taking_of o = unwrap_or (option_map (λ s. s.takes) o) false
 
-kept_itself : (o : Option Sector) → o ≡ option_map (kept (taking_of o)) o
-kept_itself (Some s) = refl
-kept_itself None = refl
-
 landed : (buffer : List ℕ) (was takes : Bool) (o : Option Sector) → takes ≡ taking_of (option_map (rewritten buffer) (option_map (kept was) o)) → option_map (rewritten buffer) (option_map (kept was) o) ≡ option_map (copied_onto buffer takes) o
 landed buffer was takes (Some s) is = ap (λ t. Some (copied_onto buffer t s)) (sym is)
 landed buffer was takes None is = refl
@@ -113,12 +111,19 @@ passed false buffer was takes None = refl
 same_packs : (kinds : List Kind) (s s' : ℕ → ℕ → Option Sector) → ((pack block : ℕ) → s pack block ≡ s' pack block) → ◌≡◌ {A = Packs} (record { kinds = kinds; sector = s }) (record { kinds = kinds; sector = s' })
 same_packs kinds s s' same = ap (λ (f : ℕ → ℕ → Option Sector). (record { kinds = kinds; sector = f })) (fun_ext (λ pack. fun_ext (same pack)))
 
--- Nothing is copied yet.
-pub none_copied : (source : Packs) (p : ℕ) (before : Packs) (q : ℕ) → before ≡ copied_front source p before q 0 (takes_in before)
-none_copied source p before q =
-    same_packs before.kinds _ _ (λ pack block.
-    kept_itself (before.sector pack block)
-    ∙ sym (cond-false (eqb pack q && (ltb block 0 && clean_at source p block)) (option_map (copied_onto (words_at source p block) (takes_in before pack block)) (before.sector pack block)) (option_map (kept (takes_in before pack block)) (before.sector pack block)) (before_first (eqb pack q) (clean_at source p block) block)))
+-- where the packs fit each other, the source has each block of their kind
+fit_kind : (o o' : Option Kind) (k : Kind) → Ok k ≡ one_kind o o' → o ≡ Some k
+fit_kind None o' k e = absurd (cc)
+fit_kind (Some j) None k e = absurd (cc)
+fit_kind (Some j) (Some i) k e =
+    ⊎_elim
+    (λ same. let f = rw same at e in cc)
+    (λ other. let f = rw other at e in absurd (cc))
+    (cases_Bool (eqb (kind_number i) (kind_number j)))
+
+pub present : (source : Packs) → Lawful source → (p : ℕ) (before : Packs) (q : ℕ) (k : Kind) → Ok k ≡ kinds_reply source p before q → (n : ℕ) → n < blocks_of k → is_some (source.sector p n) ≡ true
+present source lawful p before q k fits n below =
+    lawful.placed p n ∙ rw (fit_kind (slice_get source.kinds p) (slice_get before.kinds q) k fits) (lt-ltb n (blocks_of k) below)
 
 -- The turn at block n of a copy.
 module _ (source : Packs) (p : ℕ) (before : Packs) (q : ℕ) (target after : Packs) (n : ℕ) (front : target ≡ copied_front source p before q n (takes_in target)) (is : after ≡ after_copy source p target q n (takes_in after)) where
@@ -199,6 +204,18 @@ module _ (source : Packs) (p : ℕ) (before : Packs) (q : ℕ) (target after : P
         ap (λ a. store_reply a q n (words_at source p n)) same ∙ ap (store_reply target q n) (sym (source_words s.sector s.there)) ∙ s.reply,
       )
 
+  -- A copy that stops at this block, whose packs fit each other.
+  module _ (lawful : Lawful source) (k : Kind) (fits : Ok k ≡ kinds_reply source p before q) (below : n < blocks_of k) where
+    pub stopped_declined : (x : ShelfRefusal) (why : CopyError) → why ≡ Declined x → Err x ≡ copy_reply source p target q n → Stopped source p before q after why
+    stopped_declined x why is_why reply =
+        let facts = on_refused x (present source lawful p before q k fits n below) (sym reply) in
+        inr (n, record { kind = k; fits = sym fits; within = below; target = still facts.0; cause = inl (facts.1, (x, facts.2, is_why)) })
+
+    pub stopped_unlisted : (m : Mark) (why : CopyError) → why ≡ NoMemory → copy_reply source p target q n ≡ Ok (Skipped m) → Stopped source p before q after why
+    stopped_unlisted m why is_why reply =
+        let facts = on_skipped m reply in
+        inr (n, record { kind = k; fits = sym fits; within = below; target = still facts.0; cause = inr (facts.1, is_why) })
+
 -- the list of what was left out, one block more
 module _ (source : Packs) (p n : ℕ) (left : List LeftOut) (is : left ≡ marked_blocks source p n) where
   pub none_more : clean_at source p n ≡ true → left ≡ marked_blocks source p (n + 1)
@@ -206,17 +223,3 @@ module _ (source : Packs) (p n : ℕ) (left : List LeftOut) (is : left ≡ marke
 
   pub one_more : (m : Mark) → clean_at source p n ≡ false → m ≡ mark_at source p n → left ++ (record { block = n; mark = m }) ∷ [] ≡ marked_blocks source p (n + 1)
   one_more m marked same = rw (add-one n, marked, is, same)
-
--- where the packs fit each other, the source has each block of their kind
-fit_kind : (o o' : Option Kind) (k : Kind) → Ok k ≡ one_kind o o' → o ≡ Some k
-fit_kind None o' k e = let z : ◌≡◌ {A = ℕ} 0 1 = cc in absurd (omega arith)
-fit_kind (Some j) None k e = let z : ◌≡◌ {A = ℕ} 0 1 = cc in absurd (omega arith)
-fit_kind (Some j) (Some i) k e =
-    ⊎_elim
-    (λ same. let f = rw same at e in cc)
-    (λ other. let f = rw other at e in let z : ◌≡◌ {A = ℕ} 0 1 = cc in absurd (omega arith))
-    (cases_Bool (eqb (kind_number i) (kind_number j)))
-
-pub present : (source : Packs) → Lawful source → (p : ℕ) (before : Packs) (q : ℕ) (k : Kind) → Ok k ≡ kinds_reply source p before q → (n : ℕ) → n < blocks_of k → is_some (source.sector p n) ≡ true
-present source lawful p before q k fits n below =
-    lawful.placed p n ∙ rw (fit_kind (slice_get source.kinds p) (slice_get before.kinds q) k fits) (lt-ltb n (blocks_of k) below)

@@ -13,6 +13,7 @@ use std::error::Error;
 use std::fmt;
 
 /// What became of a sector.
+// A type of its own: as an Option, None would have to say that the words were stored.
 #[derive(Clone, Copy, PartialEq, Eq, Debug)]
 pub enum Outcome {
     /// Its words were stored.
@@ -57,6 +58,7 @@ impl<T: Drop> From<AllocFailed<T>> for CopyError {
 }
 
 /// Copies a sector that nothing is wrong with to the same block of another pack.
+// A shelf and a pack's number, as every call on a shelf has them: in one value they would be two types, one shared and one lent to be changed.
 pub fn copy_sector<F: Shelf, T: Shelf>(
     from: &F,
     from_pack: u8,

@@ -1,13 +1,13 @@
 // A shelf of one pack that repeats one sector. Anybody outside the library writes a shelf of their own like this: a meaning (specs/Stamp.antt), its law, and the four calls of a shelf.
 ghost use Rattle.std.specs.Prelude.{◌≡◌, [], ◌∷◌};
+ghost use Rattle.std.specs.List.{slice_get};
 ghost use Rattle.std.proofs.Common.{lit≤};
 ghost use Rattle.makes.specs.Stamp.{stamp_packs};
 ghost use Rattle.media.specs.Laws.{shelf_lawful};
-ghost use Rattle.media.specs.Shelf.{has_block};
 
 use media::kinds::Kind;
 use media::marks::Mark;
-use media::shelf::{SECTOR_WORDS, Shelf, ShelfRefusal};
+use media::shelf::{SECTOR_WORDS, Shelf, ShelfRefusal, check_sector};
 
 /// A shelf of one pack whose sectors all have the same words and the same mark, and of which none takes.
 #[derive(Drop)]
@@ -25,11 +25,11 @@ impl Stamp {
         Stamp { kind, words, mark }
     }
 
-    // Whether a sector is there.
-    fn has(&self, pack: u8, block: u16) -> bool
-        ensures { result ≡ has_block (self.now.kind ∷ []) pack block }
+    // The kind of a pack, if there is such a pack.
+    fn kind_at(&self, pack: u8) -> Option<Kind>
+        ensures { result ≡ slice_get (self.now.kind ∷ []) pack }
     {
-        pack == 0 && block < self.kind.blocks()
+        (pack == 0).then_some(self.kind)
     }
 }
 
@@ -43,31 +43,16 @@ impl Shelf for Stamp {
     }
 
     fn kind(&self, pack: u8) -> Result<Kind, ShelfRefusal> {
-        if pack == 0 {
-            Ok(self.kind)
-        } else {
-            Err(ShelfRefusal::NoPack)
-        }
+        self.kind_at(pack).ok_or(ShelfRefusal::NoPack)
     }
 
     fn fetch(&self, pack: u8, block: u16, buffer: &mut [u16]) -> Result<Mark, ShelfRefusal> {
-        if buffer.len() != SECTOR_WORDS {
-            return Err(ShelfRefusal::BufferLength);
-        }
-        if !self.has(pack, block) {
-            return Err(ShelfRefusal::NoSector);
-        }
+        check_sector(self.kind_at(pack), block, buffer)?;
         buffer.copy_from_slice(&self.words);
         Ok(self.mark)
     }
 
     fn store(&mut self, pack: u8, block: u16, buffer: &[u16]) -> Result<(), ShelfRefusal> {
-        if buffer.len() != SECTOR_WORDS {
-            Err(ShelfRefusal::BufferLength)
-        } else if !self.has(pack, block) {
-            Err(ShelfRefusal::NoSector)
-        } else {
-            Err(ShelfRefusal::NotTaking)
-        }
+        check_sector(self.kind_at(pack), block, buffer).and(Err(ShelfRefusal::NotTaking))
     }
 }

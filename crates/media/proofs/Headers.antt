@@ -16,7 +16,3 @@ packed c h s p q t =
 -- The low bit by a mask.
 pub low_bit : (n : ℕ) → bit_and n 1 ≡ n % 2
 low_bit n = and_mask n 1
-
--- The low six bits by a mask.
-pub low_six : (n : ℕ) → bit_and n 63 ≡ n % 64
-low_six n = and_mask n 6

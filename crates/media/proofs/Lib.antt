@@ -1,5 +1,4 @@
 pub mod Crc
 pub mod Headers
-pub mod Meanings
 pub mod SamePacks
 pub mod Shelves

@@ -1,5 +1,5 @@
 -- The comparison of two packs, sector by sector.
-use Rattle.std.proofs.Common.{◌≡◌, ℕ, ◌<◌, ◌≤◌, Bool, true, false, ◌&&◌, eqb, List, [], length, is_some, IfOk, Some, None, Ok, Decides, Option, Result, unwrap_or, sym, refl, ap, ◌∙◌, ⊎_elim, arith, rules}
+use Rattle.std.proofs.Common.{◌≡◌, ℕ, ◌<◌, ◌≤◌, Bool, true, false, ◌&&◌, eqb, List, [], length, is_some, IfOk, Some, None, Ok, Decides, Option, Result, unwrap_or, sym, refl, ap, ◌∙◌, ⊎_elim, rules}
 use mathlib.Core.Path.{subst⁻¹}
 use Rattle.std.specs.List.{slice_get}
 use Rattle.std.specs.Option.{option_map, ok_or}
@@ -73,7 +73,7 @@ module _ (left : Packs) (left_lawful : Lawful left) (p : ℕ) (right : Packs) (r
   module _ (k j : Kind) (left_is : Ok k ≡ kind_reply left p) (right_is : Ok j ≡ kind_reply right q) (equal : j ≡ k) where
     nth_is : (o : Option Kind) (i : Kind) → Ok i ≡ ok_or o NoPack → o ≡ Some i
     nth_is (Some h) i e = cc
-    nth_is None i e = let z : ◌≡◌ {A = ℕ} 0 1 = cc in absurd (omega arith)
+    nth_is None i e = absurd (cc)
 
     right_kind : slice_get right.kinds q ≡ Some k
     right_kind = nth_is (slice_get right.kinds q) j right_is ∙ ap Some equal

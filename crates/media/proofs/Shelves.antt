@@ -1,7 +1,8 @@
 -- When what stands on a shelf afterwards is what a store leaves.
-use Rattle.std.proofs.Common.{◌≡◌, ℕ, zero, suc, ◌<◌, Bool, true, false, cond, ◌&&◌, eqb, List, [], ◌∷◌, length, Some, None, Ok, Err, Option, unwrap_or, refl, ap, ◌∙◌, suc-le-suc, zero-le}
+use Rattle.std.proofs.Common.{◌≡◌, ℕ, zero, suc, ◌<◌, Bool, true, false, cond, ◌&&◌, eqb, List, [], ◌∷◌, length, Some, None, Ok, Err, Option, unwrap_or, refl, ap, ◌∙◌, arith, suc-le-suc, zero-le}
 use mathlib.Core.Path.{fun_ext}
-use Rattle.std.proofs.lemmas.Bool.{eq-eqb, ne_eqb, false≢true}
+use Rattle.std.proofs.lemmas.Bool.{false≢true}
+use Rattle.std.proofs.lemmas.Grind.{common_steps}
 use Rattle.std.specs.Option.{option_map}
 use Rattle.media.specs.Shelf.{Sector, Packs, has_block, shelf_of, fetch_reply, fetch_buffer, store_reply, after_store, left_by, stored, rewritten, kept, takes_in}
 use Rattle.media.specs.declared.kinds.Kind.{Kind}
@@ -22,13 +23,13 @@ stored_shelf kinds before after pack block buffer stores keeps =
 -- What a fetch answers and leaves where the sector is there.
 module _ (kinds : List Kind) (content : ℕ → ℕ → Sector) (pack block : ℕ) (buffer : List ℕ) (long : length buffer ≡ 128) (there : has_block kinds pack block ≡ true) where
   pub fetch_there : fetch_reply (shelf_of kinds content) pack block buffer ≡ Ok (content pack block).mark
-  fetch_there = rw (eq-eqb (length buffer) 128 long, there)
+  fetch_there = grind (arith, common_steps)
 
   pub filled_there : fetch_buffer (shelf_of kinds content) pack block buffer ≡ (content pack block).words
-  filled_there = rw (eq-eqb (length buffer) 128 long, there)
+  filled_there = grind (arith, common_steps)
 
   pub store_there : store_reply (shelf_of kinds content) pack block buffer ≡ cond (content pack block).takes (Ok tt) (Err NotTaking)
-  store_there = rw (eq-eqb (length buffer) 128 long, there)
+  store_there = grind (arith, common_steps)
 
   -- a store that is accepted leaves what `stored` says
   pub after_there : (after : ℕ → ℕ → Bool) → (content pack block).takes ≡ true → after_store (shelf_of kinds content) pack block buffer after ≡ stored (shelf_of kinds content) pack block buffer after
@@ -36,7 +37,7 @@ module _ (kinds : List Kind) (content : ℕ → ℕ → Sector) (pack block : �
 
 -- a fetch into a buffer that has not 128 words
 pub short_buffer : (shelf : Packs) (pack block : ℕ) (buffer : List ℕ) → (length buffer ≡ 128 → ⊥) → (Err BufferLength ≡ fetch_reply shelf pack block buffer) × (buffer ≡ fetch_buffer shelf pack block buffer)
-short_buffer shelf pack block buffer short = (rw (ne_eqb (length buffer) 128 short), rw (ne_eqb (length buffer) 128 short))
+short_buffer shelf pack block buffer short = (grind (arith, common_steps), grind (arith, common_steps))
 
 -- a block that is there belongs to a pack that is there
 pub in_row : (kinds : List Kind) (pack block : ℕ) → has_block kinds pack block ≡ true → pack < length kinds

@@ -1,5 +1,5 @@
 -- Where a sector lies, the numbers that name it, and the check word of its header.
-use Rattle.std.specs.Prelude.{ℕ, zero, suc, ◌+◌, ◌*◌, ◌/◌, ◌%◌, Bool, false, ◌&&◌, List, [], ◌∷◌, ◌++◌, Some, None, Ok, Err, Result, ◌==◌, bit_xor, nat_lt, if◌then◌else◌}
+use Rattle.std.specs.Prelude.{ℕ, zero, suc, ◌+◌, ◌*◌, ◌/◌, ◌%◌, Bool, false, ◌&&◌, List, [], ◌∷◌, ◌++◌, fold, Some, None, Ok, Err, Result, ◌==◌, bit_xor, nat_lt, if◌then◌else◌}
 use Rattle.media.specs.declared.address.AddressRefusal.{AddressRefusal}
 use Rattle.media.specs.declared.address.AddressRefusal.TheVariants.{NoSector}
 use Rattle.media.specs.declared.address.Place.{Place}
@@ -63,9 +63,8 @@ abbrev pub crc_step : ℕ → ℕ → ℕ
 crc_step c b = if c % 2 == b then c / 2 else bit_xor (c / 2) 0o120001
 
 -- A list of bits into a CRC, one after the other.
-unfoldable pub crc_over : ℕ → List ℕ → ℕ
-crc_over c [] = c
-crc_over c (b ∷ bs) = crc_over (crc_step c b) bs
+abbrev pub crc_over : ℕ → List ℕ → ℕ
+crc_over c bits = fold crc_step c bits
 
 -- The lowest bits of a number, bit 0 first.
 unfoldable pub low_bits : ℕ → ℕ → List ℕ

@@ -1,6 +1,6 @@
 // Where a sector lies on a pack, and the numbers that name it.
 ghost use Rattle.std.specs.Prelude.{◌≡◌, IfOk, Ok};
-ghost use Rattle.media.specs.Address.{address_refusal_number, on_pack, for_kind, or_no_sector, block_reply, header_reply, place_of_block, place_of_header, crc_step, crc_over, word_bits, check_of};
+ghost use Rattle.media.specs.Address.{address_refusal_number, on_pack, or_no_sector, block_reply, header_reply, place_of_block, place_of_header, crc_step, crc_over, word_bits, check_of};
 ghost use Rattle.media.specs.declared.address.AddressRefusal.TheVariants.{NoSector};
 
 use crate::kinds::{HEADS, Kind, SECTORS, UnknownKind};
@@ -42,13 +42,14 @@ impl From<UnknownKind> for AddressRefusal {
     }
 }
 
+// A kind is given by its number here, since a number that is no kind's is refused: the type Kind would ask more of callers.
 impl Place {
     /// The block number, on a pack of the kind with this number.
     pub fn block(self, kind: u8) -> Result<u16, AddressRefusal>
         ensures reply { result ≡ block_reply kind self }
         ensures back { IfOk result (λ b. place_of_block kind b ≡ Ok self) }
     {
-        self.check(kind)?;
+        self.check(Kind::try_from(kind)?)?;
         Ok((self.cylinder * HEADS + self.head as u16) * SECTORS + self.sector as u16)
     }
 
@@ -57,7 +58,7 @@ impl Place {
         ensures reply { result ≡ header_reply kind self }
         ensures back { IfOk result (λ w. place_of_header kind w ≡ Ok self) }
     {
-        self.check(kind)?;
+        self.check(Kind::try_from(kind)?)?;
         Ok(self.cylinder << 7 | (self.head as u16) << 6 | self.sector as u16)
     }
 
@@ -87,15 +88,14 @@ impl Place {
             head: (header >> 6 & 1) as u8,
             sector: (header & 0o77) as u8,
         };
-        place.check(kind)?;
+        place.check(Kind::try_from(kind)?)?;
         Ok(place)
     }
 
-    // Refuses a place that a pack of the kind with this number lacks.
-    fn check(self, kind: u8) -> Result<(), AddressRefusal>
-        ensures { result ≡ or_no_sector (for_kind kind (λ k. on_pack k self)) tt }
+    // Refuses a place that a pack of this kind lacks.
+    fn check(self, kind: Kind) -> Result<(), AddressRefusal>
+        ensures { result ≡ or_no_sector (on_pack kind self) tt }
     {
-        let kind = Kind::try_from(kind)?;
         if self.cylinder < kind.cylinders()
             && (self.head as u16) < HEADS
             && (self.sector as u16) < SECTORS
@@ -148,6 +148,7 @@ pub fn check_word(header: u16) -> u16
 fn run_word(mut crc: u16, mut word: u16) -> u16
     ensures { result ≡ crc_over crc (word_bits word) }
 {
+    // Bit after bit, by shifts and masks, as the rule of the check word has it.
     for _turn in 0..u16::BITS {
         crc = run_bit(crc, word & 1);
         word >>= 1;

@@ -1,4 +1,5 @@
 // The address rules on plain numbers, as C calls them by way of the crate `media_c`: a refusal is 65,536 plus its number, which no result is.
+// C has no Kind and no Result: a kind, a place and a refusal are numbers here.
 ghost use Rattle.std.specs.Prelude.{◌≡◌, ◌<◌, ◌&&◌, IfOk, nat_lt};
 ghost use Rattle.media.specs.Address.{or_no_sector, place_given, block_reply, header_reply};
 ghost use Rattle.media.specs.Host.{host_number, check_reply, host_block, host_header, host_check};

@@ -6,6 +6,7 @@ ghost use Rattle.media.specs.Shelf.{has_block};
 use crate::shelf::{SECTOR_WORDS, Shelf, ShelfRefusal};
 
 /// Whether a pack of one shelf and a pack of another have the same kind and all words the same.
+// A shelf and a pack's number, as every call on a shelf has them.
 pub fn same<L: Shelf, R: Shelf>(
     left: &L,
     left_pack: u8,
@@ -19,6 +20,7 @@ pub fn same<L: Shelf, R: Shelf>(
     if right.kind(right_pack)? != kind {
         return Ok(false);
     }
+    // A loop, and not `all`: a closure cannot hand on a refusal with `?`.
     for block in 0..kind.blocks() {
         if !same_sector(left, left_pack, right, right_pack, block)? {
             return Ok(false);

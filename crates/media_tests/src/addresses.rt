@@ -55,7 +55,7 @@ fn no_places_on_no_kind(rt: HostRuntime) {
         assert_eq!(rt; Place::from_block(kind, 0), Err(NO_SECTOR));
         assert_eq!(rt; Place::from_header(kind, 0), Err(NO_SECTOR));
     }
-    assert_eq!(rt; NO_SECTOR.number(), 14);
+    assert_eq!(rt; u8::from(NO_SECTOR), 14);
 }
 
 #[test]

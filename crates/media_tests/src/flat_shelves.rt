@@ -9,7 +9,7 @@ use std::test::Fail;
 // A shelf of this kind over so many words has no packs.
 fn none_over(rt: &impl Abort, heap: Global, kind: u8, length: usize) -> Result<(), Fail> {
     let mut words = vec![in heap; 5; length]?;
-    has_none(rt, &mut FlatShelf::new(kind, &mut words))?;
+    has_none(rt, &mut FlatShelf::new(kind, &mut words));
     all_are(rt, &words, 5);
     Ok(())
 }
@@ -58,9 +58,9 @@ fn wrong_buffers(rt: HostRuntime) -> Result<(), Fail> {
     let mut words = vec![in rt.alloc(); 5; RL01_WORDS]?;
     let mut shelf = FlatShelf::new(1, &mut words);
     for length in [0, 127, 129] {
-        refused(&rt, &mut shelf, 0, 0, length, 13)?;
-        refused(&rt, &mut shelf, 0, 20_480, length, 13)?;
-        refused(&rt, &mut shelf, 1, 0, length, 13)?;
+        refused(&rt, &mut shelf, 0, 0, length, 13);
+        refused(&rt, &mut shelf, 0, 20_480, length, 13);
+        refused(&rt, &mut shelf, 1, 0, length, 13);
     }
     drop(shelf);
     all_are(&rt, &words, 5);
@@ -72,10 +72,10 @@ fn missing_sectors(rt: HostRuntime) -> Result<(), Fail> {
     let mut words = vec![in rt.alloc(); 5; RL01_WORDS]?;
     let mut shelf = FlatShelf::new(1, &mut words);
     for pack in [1, 7, 8, 255] {
-        refused(&rt, &mut shelf, pack, 0, 128, 14)?;
+        refused(&rt, &mut shelf, pack, 0, 128, 14);
     }
-    refused(&rt, &mut shelf, 0, 20_480, 128, 14)?;
-    refused(&rt, &mut shelf, 0, 65_535, 128, 14)?;
+    refused(&rt, &mut shelf, 0, 20_480, 128, 14);
+    refused(&rt, &mut shelf, 0, 65_535, 128, 14);
     drop(shelf);
     all_are(&rt, &words, 5);
     Ok(())
@@ -91,7 +91,8 @@ fn first_and_last_sectors(rt: HostRuntime) -> Result<(), Fail> {
     holds(&rt, &shelf, 0, 1, 5, 0)?;
     holds(&rt, &shelf, 0, 20_479, 5, 0)?;
     holds(&rt, &shelf, 0, 40_958, 5, 0)?;
-    refused(&rt, &mut shelf, 0, 40_960, 128, 14)
+    refused(&rt, &mut shelf, 0, 40_960, 128, 14);
+    Ok(())
 }
 
 #[test]

@@ -72,7 +72,7 @@ fn missing_packs(rt: HostRuntime) -> Result<(), Fail> {
     both_ways(&rt, &flat, 1, &shelf, 0, Err(NO_PACK));
     both_ways(&rt, &flat, 255, &shelf, 1, Err(NO_PACK));
     both_ways(&rt, &FlatShelf::new(1, &mut []), 0, &shelf, 0, Err(NO_PACK));
-    assert_eq!(rt; NO_PACK.number(), 9);
+    assert_eq!(rt; u8::from(NO_PACK), 9);
     Ok(())
 }
 

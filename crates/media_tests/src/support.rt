@@ -12,7 +12,7 @@ pub(super) const RL01_WORDS: usize = 2_621_440;
 pub(super) fn counted() -> [u16; SECTOR_WORDS] {
     let mut words = [0; SECTOR_WORDS];
     let mut next: u16 = 1;
-    for word in words.iter_mut() {
+    for word in &mut words {
         *word = next;
         next = next.wrapping_add(1);
     }
@@ -21,9 +21,7 @@ pub(super) fn counted() -> [u16; SECTOR_WORDS] {
 
 /// Every word of a slice is this one.
 pub(super) fn all_are(rt: &impl Abort, words: &[u16], word: u16) {
-    for each in words {
-        assert_eq!(rt; *each, word);
-    }
+    assert!(rt; words.iter().all(|&each| each == word));
 }
 
 /// The word at an address is this one.
@@ -49,18 +47,9 @@ pub(super) fn no_word<M: BusMemory>(
     memory: &mut M,
     address: u32,
     number: u8,
-) -> Result<(), Fail> {
-    match memory.read(address) {
-        Ok(_) => return Err(Fail::new("read")),
-        Err(refusal) => assert_eq!(rt; refusal.number(), number),
-    }
-    match memory.write(address, 0o123) {
-        Ok(_) => Err(Fail::new("written")),
-        Err(refusal) => {
-            assert_eq!(rt; refusal.number(), number);
-            Ok(())
-        },
-    }
+) {
+    assert_eq!(rt; memory.read(address).map_err(u8::from), Err(number));
+    assert_eq!(rt; memory.write(address, 0o123).map_err(u8::from), Err(number));
 }
 
 /// A shelf has so many packs, the first and the last of these kinds.
@@ -75,10 +64,10 @@ pub(super) fn has_packs<S: Shelf>(rt: &impl Abort, shelf: &S, count: u8, first: 
 }
 
 /// A shelf has no packs.
-pub(super) fn has_none<S: Shelf>(rt: &impl Abort, shelf: &mut S) -> Result<(), Fail> {
+pub(super) fn has_none<S: Shelf>(rt: &impl Abort, shelf: &mut S) {
     assert_eq!(rt; shelf.count(), 0);
     assert_eq!(rt; shelf.kind(0), Err(ShelfRefusal::NoPack));
-    refused(rt, shelf, 0, 0, 128, 14)
+    refused(rt, shelf, 0, 0, 128, 14);
 }
 
 /// A fetch into so many words and a store of so many are refused with this number, and the words are left.
@@ -89,22 +78,15 @@ pub(super) fn refused<S: Shelf>(
     block: u16,
     length: usize,
     number: u8,
-) -> Result<(), Fail> {
+) {
     let stored = [0o123; 129];
     let mut room = [0o456; 129];
     assert!(rt; length <= 129);
-    match shelf.fetch(pack, block, &mut room[0..length]) {
-        Ok(_) => return Err(Fail::new("fetched")),
-        Err(refusal) => assert_eq!(rt; refusal.number(), number),
-    }
+    let fetched = shelf.fetch(pack, block, &mut room[..length]);
+    assert_eq!(rt; fetched.map_err(u8::from), Err(number));
     assert_eq!(rt; room, [0o456; 129]);
-    match shelf.store(pack, block, &stored[0..length]) {
-        Ok(_) => Err(Fail::new("stored")),
-        Err(refusal) => {
-            assert_eq!(rt; refusal.number(), number);
-            Ok(())
-        },
-    }
+    let taken = shelf.store(pack, block, &stored[..length]);
+    assert_eq!(rt; taken.map_err(u8::from), Err(number));
 }
 
 /// A store is refused with 15, and a fetch is not.
@@ -119,7 +101,7 @@ pub(super) fn does_not_take<S: Shelf>(
         shelf.store(pack, block, &[0o123; SECTOR_WORDS]),
         Err(ShelfRefusal::NotTaking)
     );
-    assert_eq!(rt; ShelfRefusal::NotTaking.number(), 15);
+    assert_eq!(rt; u8::from(ShelfRefusal::NotTaking), 15);
     shelf.fetch(pack, block, &mut buffer)?;
     Ok(())
 }
@@ -135,7 +117,7 @@ pub(super) fn holds<S: Shelf>(
 ) -> Result<(), Fail> {
     let mut buffer = [0o456; SECTOR_WORDS];
     let found = shelf.fetch(pack, block, &mut buffer)?;
-    assert_eq!(rt; found.number(), mark);
+    assert_eq!(rt; u8::from(found), mark);
     assert_eq!(rt; buffer, [word; SECTOR_WORDS]);
     Ok(())
 }

@@ -29,10 +29,10 @@ impl BusMemory for Board<'_> {
 
     fn read(&self, address: u32) -> Result<u16, MemoryRefusal> {
         check_address(address)?;
-        match self.words.get((address / 2) as usize) {
-            Some(word) => Ok(*word),
-            None => Err(MemoryRefusal::NoWord),
-        }
+        self.words
+            .get((address / 2) as usize)
+            .copied()
+            .ok_or(MemoryRefusal::NoWord)
     }
 
     fn write(&mut self, address: u32, word: u16) -> Result<(), MemoryRefusal>
@@ -42,6 +42,7 @@ impl BusMemory for Board<'_> {
         ensures lender { self.new.words.ghost_name ≡ self.old.words.ghost_name }
     {
         check_address(address)?;
+        // By its index: through the place that `get_mut` lends, the words after the write were not proved.
         let index = (address / 2) as usize;
         if index >= self.words.len() {
             return Err(MemoryRefusal::NoWord);

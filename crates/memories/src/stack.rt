@@ -2,7 +2,7 @@
 ghost use Rattle.std.specs.Prelude.{◌≡◌};
 ghost use Rattle.media.specs.Memory.{write_reply, after_write};
 ghost use Rattle.media.specs.Laws.{at_places_placed};
-ghost use Rattle.memories.specs.Stack.{even_border, stack_contents, lower_after_write, upper_after_write};
+ghost use Rattle.memories.specs.Stack.{even_border, stack_contents, stack_meaning, lower_after_write, upper_after_write};
 
 use media::memory::{BusMemory, MemoryRefusal, check_address};
 
@@ -17,7 +17,7 @@ pub struct Stack<L, U> {
 impl<L: BusMemory, U: BusMemory> Stack<L, U> {
     /// The stack of two memories.
     pub fn new(border: u32, lower: L, upper: U) -> Stack<L, U>
-        ensures meaning { stack_contents (even_border result.border) (L.BusMemory.contents result.lower) (U.BusMemory.contents result.upper) ≡ stack_contents (even_border border) (L.BusMemory.contents lower) (U.BusMemory.contents upper) }
+        ensures meaning { stack_meaning L.BusMemory.contents U.BusMemory.contents result ≡ stack_contents (even_border border) (L.BusMemory.contents lower) (U.BusMemory.contents upper) }
         ensures border { result.border ≡ border }
         ensures below { result.lower ≡ lower }
         ensures above { result.upper ≡ upper }
@@ -51,7 +51,7 @@ impl<L: BusMemory, U: BusMemory> Stack<L, U> {
 }
 
 impl<L: BusMemory, U: BusMemory> BusMemory for Stack<L, U> {
-    ghost contents = { λ s. stack_contents (even_border s.border) (L.BusMemory.contents s.lower) (U.BusMemory.contents s.upper) };
+    ghost contents = { stack_meaning L.BusMemory.contents U.BusMemory.contents };
 
     ghost placed = { λ s. at_places_placed _ };
 
@@ -66,8 +66,8 @@ impl<L: BusMemory, U: BusMemory> BusMemory for Stack<L, U> {
     }
 
     fn write(&mut self, address: u32, word: u16) -> Result<(), MemoryRefusal>
-        ensures reply { result ≡ write_reply (stack_contents (even_border self.old.border) (L.BusMemory.contents self.old.lower) (U.BusMemory.contents self.old.upper)) address }
-        ensures after { stack_contents (even_border self.new.border) (L.BusMemory.contents self.new.lower) (U.BusMemory.contents self.new.upper) ≡ after_write (stack_contents (even_border self.old.border) (L.BusMemory.contents self.old.lower) (U.BusMemory.contents self.old.upper)) address word }
+        ensures reply { result ≡ write_reply (stack_meaning L.BusMemory.contents U.BusMemory.contents self.old) address }
+        ensures after { stack_meaning L.BusMemory.contents U.BusMemory.contents self.new ≡ after_write (stack_meaning L.BusMemory.contents U.BusMemory.contents self.old) address word }
         ensures border { self.new.border ≡ self.old.border }
         ensures below { L.BusMemory.contents self.new.lower ≡ lower_after_write (even_border self.old.border) (L.BusMemory.contents self.old.lower) address word }
         ensures above { U.BusMemory.contents self.new.upper ≡ upper_after_write (even_border self.old.border) (U.BusMemory.contents self.old.upper) address word }

@@ -14,23 +14,24 @@ use report::{say_copied, say_same};
 use sample::sample_cards;
 use shelves::cards::CardShelf;
 use shelves::flat::FlatShelf;
+use std::alloc::Global;
 
 const KIND: Kind = Kind::Rl01;
 
 fn main(rt: HostRuntime) -> anyhow::Result<()> {
-    restore(&rt)
+    restore(&rt, rt.alloc())
 }
 
-fn restore(rt: &HostRuntime) -> anyhow::Result<()> {
-    let heap = rt.alloc();
+fn restore(rt: &impl Print, heap: Global) -> anyhow::Result<()> {
     let mut cards = sample_cards(heap)?;
     let mut words = vec![in heap; 0u16; usize::from(KIND.blocks()) * SECTOR_WORDS]?;
     let count = cards.len();
     println!(rt;
         "A backup of an RL01 pack, {count} sectors on cards, is restored onto a whole pack."
     )?;
-    let mut backup = CardShelf::new([KIND.number(), 0, 0, 0, 0, 0, 0, 0], &mut cards);
-    let mut pack = FlatShelf::new(KIND.number(), &mut words);
+    let kind = u8::from(KIND);
+    let mut backup = CardShelf::new([kind, 0, 0, 0, 0, 0, 0, 0], &mut cards);
+    let mut pack = FlatShelf::new(kind, &mut words);
 
     let left_out = copy_pack(heap, &backup, 0, &mut pack, 0)?;
     say_copied(rt, "First", KIND, &left_out)?;
@@ -47,11 +48,9 @@ fn restore(rt: &HostRuntime) -> anyhow::Result<()> {
 // Mends those of the skipped sectors whose data is damaged, and answers how many.
 fn mend_damaged(backup: &mut CardShelf, left_out: &[LeftOut]) -> anyhow::Result<usize> {
     let mut mended = 0usize;
-    for left in left_out {
-        if left.mark.damaged {
-            mend_sector(backup, 0, left.block)?;
-            mended = mended.saturating_add(1);
-        }
+    for left in left_out.iter().filter(|left| left.mark.damaged) {
+        mend_sector(backup, 0, left.block)?;
+        mended = mended.saturating_add(1);
     }
     Ok(mended)
 }

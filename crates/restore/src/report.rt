@@ -1,13 +1,11 @@
 // What the program says.
-use anyhow::anyhow;
 use backup::copy::LeftOut;
 use media::address::{Place, check_word};
 use media::kinds::Kind;
-use media::marks::Mark;
 
 // How many sectors a copy took over, and each that it skipped: where it lies, what its header and check word should be, and why.
 pub fn say_copied(
-    rt: &HostRuntime,
+    rt: &impl Print,
     which: &str,
     kind: Kind,
     left_out: &[LeftOut],
@@ -21,40 +19,20 @@ pub fn say_copied(
     Ok(())
 }
 
-fn say_skipped(rt: &HostRuntime, kind: Kind, left: &LeftOut) -> anyhow::Result<()> {
-    let block = left.block;
-    let why = reason(left.mark);
-    let Ok(place) = Place::from_block(kind.number(), block) else {
-        return Err(anyhow!("a skipped block lies beyond the pack"));
-    };
-    let Ok(header) = place.header(kind.number()) else {
-        return Err(anyhow!("a skipped place lies beyond the pack"));
-    };
-    let cylinder = place.cylinder;
-    let head = place.head;
-    let sector = place.sector;
+fn say_skipped(rt: &impl Print, kind: Kind, left: &LeftOut) -> anyhow::Result<()> {
+    let LeftOut { block, mark } = *left;
+    let place = Place::from_block(u8::from(kind), block)?;
+    let header = place.header(u8::from(kind))?;
     let check = check_word(header);
     println!(rt;
-        "  block {block} (cylinder {cylinder}, head {head}, sector {sector}), header {header:06o}, check word {check:06o}: {why}"
+        "  block {block} ({place}), header {header:06o}, check word {check:06o}: {mark}"
     )?;
     Ok(())
 }
 
-fn reason(mark: Mark) -> &'static str {
-    match (mark.unreadable, mark.damaged) {
-        (false, false) => "nothing is wrong",
-        (true, false) => "its header cannot be read",
-        (false, true) => "its data is damaged",
-        (true, true) => "its header cannot be read, and its data is damaged",
-    }
-}
-
 // Whether the backup and the restored pack are the same.
-pub fn say_same(rt: &HostRuntime, same: bool) -> anyhow::Result<()> {
-    if same {
-        println!(rt; "The restored pack is the same as the backup.")?;
-    } else {
-        println!(rt; "The restored pack is not the same as the backup.")?;
-    }
+pub fn say_same(rt: &impl Print, same: bool) -> anyhow::Result<()> {
+    let is = if same { "is" } else { "is not" };
+    println!(rt; "The restored pack {is} the same as the backup.")?;
     Ok(())
 }

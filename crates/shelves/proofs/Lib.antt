@@ -1,4 +1,4 @@
-pub mod CardPacks
-pub mod Decks
 pub mod FlatPacks
-pub mod KindRows
+pub mod Sectors
+pub mod Decks
+pub mod CardPacks

@@ -1,4 +1,3 @@
 pub mod Cards
 pub mod Flat
 pub mod Laws
-pub mod Search

@@ -1,18 +1,20 @@
 // A shelf of up to eight packs whose sectors stand on cards.
-ghost use Rattle.std.specs.Prelude.{◌≡◌, length, if◌then◌else◌, Some, None};
-ghost use Rattle.std.specs.List.{slice_get};
-ghost use Rattle.shelves.specs.Cards.{card_of, is_of, is_free, card_kinds, card_packs, card_meaning, card_after};
-ghost use Rattle.shelves.specs.Search.{or_else, slot_of, Within};
+ghost use Rattle.std.specs.Prelude.{◌≡◌, length, is_some, find, position};
+ghost use Rattle.std.specs.List.{slice_get, take_while};
+ghost use Rattle.std.specs.Option.{option_copied};
+ghost use Rattle.shelves.specs.Cards.{is_of, is_free, overwritten, claimed, card_kinds, card_packs, card_meaning, card_after};
 ghost use Rattle.shelves.specs.Laws.{card_lawful};
-ghost use Rattle.media.specs.Shelf.{has_block, store_reply, after_store, takes_in};
+ghost use Rattle.media.specs.Kinds.{kind_of};
+ghost use Rattle.media.specs.Shelf.{sector_check, store_reply, after_store, takes_in};
 
 use media::kinds::Kind;
 use media::marks::Mark;
-use media::shelf::{SECTOR_WORDS, Shelf, ShelfRefusal};
+use media::shelf::{SECTOR_WORDS, Shelf, ShelfRefusal, check_sector};
 
 /// The pack number of a card that is free.
 pub const FREE: u8 = 255;
 
+// A card is a plain record of numbers by a rule of the project, so a free one has a pack number and its mark is the raw number.
 /// One sector: its pack, its block, its mark, of which only the two low bits count, and its words. A card with pack 255 is free.
 #[derive(Clone, Copy, PartialEq, Eq, Debug)]
 pub struct Card {
@@ -36,14 +38,23 @@ impl Card {
         self.pack == FREE
     }
 
-    // Puts a sector on this card.
-    fn put(&mut self, pack: u8, block: u16, mark: u8, buffer: &[u16])
+    // Puts new words on a sector's card, which then has no damaged data.
+    fn overwrite(&mut self, buffer: &[u16])
         requires { length buffer.now ≡ 128 }
-        ensures { self.new ≡ card_of pack block mark buffer.now }
+        ensures { self.new ≡ overwritten buffer.now self.old }
+    {
+        self.mark &= 1;
+        self.words.copy_from_slice(buffer);
+    }
+
+    // Makes this the card of a sector with these words, of which nothing is wrong.
+    fn claim(&mut self, pack: u8, block: u16, buffer: &[u16])
+        requires { length buffer.now ≡ 128 }
+        ensures { self.new ≡ claimed pack block buffer.now self.old }
     {
         self.pack = pack;
         self.block = block;
-        self.mark = mark;
+        self.mark = 0;
         self.words.copy_from_slice(buffer);
     }
 }
@@ -52,45 +63,15 @@ impl Card {
 /// first card that has its pack and block; one without a card has zero words and takes while a card is free, and a store gives it the first of these.
 #[derive(Drop)]
 pub struct CardShelf<'a> {
-    kinds: [u8; 8],
+    kinds: [Option<Kind>; 8],
     cards: &'a mut [Card],
 }
 
-// Where a sector's words are, or would go.
-#[derive(Clone, Copy)]
-enum Slot {
-    Own(usize),
-    Free(usize),
-    Full,
-}
-
-// One search of the cards, for the sector's own card and, should there be none, for the first that is free.
-fn locate(cards: &[Card], pack: u8, block: u16) -> Slot
-    ensures value { result ≡ slot_of cards.now pack block }
-    ensures within { Within (length cards.now) result }
+// The kind with a number, if there is one.
+fn known_kind(number: u8) -> Option<Kind>
+    ensures { result ≡ kind_of number }
 {
-    let mut free = None;
-    for (i, card) in cards.iter().enumerate() {
-        if card.is_of(pack, block) {
-            return Slot::Own(i);
-        }
-        free = earlier(free, card, i);
-    }
-    match free {
-        Some(i) => Slot::Free(i),
-        None => Slot::Full,
-    }
-}
-
-// The place of the first free card, once a card more has been looked at.
-fn earlier(free: Option<usize>, card: &Card, place: usize) -> Option<usize>
-    ensures { result ≡ or_else free (if is_free card.now then Some place else None) }
-{
-    match free {
-        Some(_) => free,
-        None if card.is_free() => Some(place),
-        None => None,
-    }
+    Kind::try_from(number).ok()
 }
 
 impl<'a> CardShelf<'a> {
@@ -99,28 +80,56 @@ impl<'a> CardShelf<'a> {
         ensures meaning { card_meaning result ≡ card_packs kinds cards.old }
         ensures lent { result.cards ≡ cards.entry }
     {
-        CardShelf { kinds, cards }
+        CardShelf {
+            kinds: kinds.map(known_kind),
+            cards,
+        }
     }
 
     // The kind of a pack, if there is such a pack.
     fn kind_at(&self, pack: u8) -> Option<Kind>
         ensures { result ≡ slice_get (card_kinds self.now.kinds) pack }
     {
-        if pack < self.count() {
-            Kind::from_number(self.kinds[usize::from(pack)])
+        if usize::from(pack) < self.packs() {
+            self.kinds[usize::from(pack)]
         } else {
             None
         }
     }
 
-    // Whether a pack is there and has a block.
-    fn has(&self, pack: u8, block: u16) -> bool
-        ensures { result ≡ has_block (card_kinds self.now.kinds) pack block }
+    // How many packs there are.
+    fn packs(&self) -> usize
+        ensures { result ≡ length (take_while is_some self.now.kinds) }
     {
-        match self.kind_at(pack) {
-            Some(kind) => block < kind.blocks(),
-            None => false,
-        }
+        self.kinds.iter().take_while(|kind| kind.is_some()).count()
+    }
+
+    // Refuses a buffer that has not 128 words, then a sector that is not there.
+    fn check(&self, pack: u8, block: u16, buffer: &[u16]) -> Result<(), ShelfRefusal>
+        ensures { result ≡ sector_check (slice_get (card_kinds self.now.kinds) pack) block buffer.now }
+    {
+        check_sector(self.kind_at(pack), block, buffer)
+    }
+
+    // The card of a sector, if it has one.
+    fn card(&self, pack: u8, block: u16) -> Option<&Card>
+        ensures { option_copied result ≡ find (is_of pack block) self.now.cards.now }
+    {
+        self.cards.iter().find(|card| card.is_of(pack, block))
+    }
+
+    // Where a sector's card stands, if it has one.
+    fn place(&self, pack: u8, block: u16) -> Option<usize>
+        ensures { result ≡ position (is_of pack block) self.now.cards.now }
+    {
+        self.cards.iter().position(|card| card.is_of(pack, block))
+    }
+
+    // Where the first free card stands, if there is one.
+    fn free_place(&self) -> Option<usize>
+        ensures { result ≡ position is_free self.now.cards.now }
+    {
+        self.cards.iter().position(|card| card.is_free())
     }
 }
 
@@ -130,14 +139,7 @@ impl Shelf for CardShelf<'_> {
     ghost lawful = { λ s. card_lawful s.kinds s.cards.now };
 
     fn count(&self) -> u8 {
-        let mut count = 0;
-        for number in self.kinds {
-            if Kind::from_number(number).is_none() {
-                break;
-            }
-            count += 1;
-        }
-        count
+        self.packs() as u8
     }
 
     fn kind(&self, pack: u8) -> Result<Kind, ShelfRefusal> {
@@ -145,19 +147,13 @@ impl Shelf for CardShelf<'_> {
     }
 
     fn fetch(&self, pack: u8, block: u16, buffer: &mut [u16]) -> Result<Mark, ShelfRefusal> {
-        if buffer.len() != SECTOR_WORDS {
-            return Err(ShelfRefusal::BufferLength);
-        }
-        if !self.has(pack, block) {
-            return Err(ShelfRefusal::NoSector);
-        }
-        let cards = &*self.cards;
-        match locate(cards, pack, block) {
-            Slot::Own(i) => {
-                buffer.copy_from_slice(&cards[i].words);
-                Ok(Mark::from_number(cards[i].mark))
+        self.check(pack, block, buffer)?;
+        match self.card(pack, block) {
+            Some(card) => {
+                buffer.copy_from_slice(&card.words);
+                Ok(Mark::from(card.mark))
             }
-            _ => {
+            None => {
                 buffer.fill(0);
                 Ok(Mark::CLEAN)
             }
@@ -170,24 +166,14 @@ impl Shelf for CardShelf<'_> {
         ensures lender { self.new.cards.ghost_name ≡ self.old.cards.ghost_name }
         ensures deck { self.new.cards.now ≡ card_after self.old.kinds self.old.cards.now pack block buffer.now }
     {
-        if buffer.len() != SECTOR_WORDS {
-            return Err(ShelfRefusal::BufferLength);
+        self.check(pack, block, buffer)?;
+        if let Some(i) = self.place(pack, block) {
+            self.cards[i].overwrite(buffer);
+        } else if let Some(i) = self.free_place() {
+            self.cards[i].claim(pack, block, buffer);
+        } else {
+            return Err(ShelfRefusal::NotTaking);
         }
-        if !self.has(pack, block) {
-            return Err(ShelfRefusal::NoSector);
-        }
-        let cards = &mut *self.cards;
-        match locate(cards, pack, block) {
-            Slot::Own(i) => {
-                let mark = cards[i].mark & 1;
-                cards[i].put(pack, block, mark, buffer);
-                Ok(())
-            }
-            Slot::Free(i) => {
-                cards[i].put(pack, block, 0, buffer);
-                Ok(())
-            }
-            Slot::Full => Err(ShelfRefusal::NotTaking),
-        }
+        Ok(())
     }
 }

@@ -1,20 +1,21 @@
 // A shelf of one pack in a slice of words.
-ghost use Rattle.std.specs.Prelude.{◌≡◌, ◌+◌, ◌≤◌, length, IfSome};
+ghost use Rattle.std.specs.Prelude.{◌≡◌, ◌*◌, Ok};
+ghost use Rattle.std.specs.List.{slice_get};
 ghost use Rattle.std.specs.Option.{option_to_list};
+ghost use Rattle.std.specs.Result.{result_and};
 ghost use Rattle.shelves.specs.Laws.{flat_lawful};
-ghost use Rattle.shelves.specs.Flat.{flat_kinds, flat_packs, flat_meaning, flat_after};
-ghost use Rattle.shelves.specs.Search.{sector_start};
-ghost use Rattle.media.specs.Shelf.{store_reply, after_store, takes_in};
+ghost use Rattle.shelves.specs.Flat.{whole_pack, flat_packs, flat_meaning, flat_after};
+ghost use Rattle.media.specs.Shelf.{sector_check, store_reply, after_store, takes_in};
 
 use media::kinds::Kind;
 use media::marks::Mark;
-use media::shelf::{SECTOR_WORDS, Shelf, ShelfRefusal};
+use media::shelf::{SECTOR_WORDS, Shelf, ShelfRefusal, check_sector};
 
 /// A shelf of one pack, whose words stand in a lent slice in the order of the blocks. Nothing is wrong with its sectors, and all of them take.
 /// Where the kind is none or the slice has not just a pack's words, the shelf has no packs.
 #[derive(Drop)]
 pub struct FlatShelf<'a> {
-    kind: u8,
+    kind: Option<Kind>,
     words: &'a mut [u16],
 }
 
@@ -24,32 +25,32 @@ impl<'a> FlatShelf<'a> {
         ensures meaning { flat_meaning result ≡ flat_packs kind words.old }
         ensures lent { result.words ≡ words.entry }
     {
-        FlatShelf { kind, words }
+        FlatShelf {
+            kind: Kind::try_from(kind).ok(),
+            words,
+        }
     }
 
-    // The kind of the one pack, if there is one.
+    // The kind of the one pack, where the slice has just its words.
     fn whole(&self) -> Option<Kind>
-        ensures { option_to_list result ≡ flat_kinds self.now.kind self.now.words.now }
+        ensures { option_to_list result ≡ whole_pack self.now.words.now self.now.kind }
     {
-        let kind = Kind::from_number(self.kind)?;
-        if self.words.len() == usize::from(kind.blocks()) * SECTOR_WORDS {
-            Some(kind)
-        } else {
-            None
-        }
+        self.kind.filter(|kind| self.words.len() == usize::from(kind.blocks()) * SECTOR_WORDS)
     }
 
-    // Where a sector's words begin.
-    fn start(&self, pack: u8, block: u16) -> Option<usize>
-        ensures value { result ≡ sector_start self.now.kind self.now.words.now pack block }
-        ensures within { IfSome result (λ s. s + 128 ≤ length self.now.words.now) }
+    // The kind of a pack, if there is such a pack.
+    fn kind_at(&self, pack: u8) -> Option<Kind>
+        ensures { result ≡ slice_get (whole_pack self.now.words.now self.now.kind) pack }
     {
-        let kind = self.whole()?;
-        if pack == 0 && block < kind.blocks() {
-            Some(usize::from(block) * SECTOR_WORDS)
-        } else {
-            None
-        }
+        self.whole().filter(|_| pack == 0)
+    }
+
+    // Where a sector's words begin, unless the buffer or the sector is refused.
+    fn start(&self, pack: u8, block: u16, buffer: &[u16]) -> Result<usize, ShelfRefusal>
+        ensures { result ≡ result_and (sector_check (slice_get (whole_pack self.now.words.now self.now.kind) pack) block buffer.now) (Ok (block * 128)) }
+    {
+        check_sector(self.kind_at(pack), block, buffer)?;
+        Ok(usize::from(block) * SECTOR_WORDS)
     }
 }
 
@@ -59,26 +60,16 @@ impl Shelf for FlatShelf<'_> {
     ghost lawful = { λ s. flat_lawful s.kind s.words.now };
 
     fn count(&self) -> u8 {
-        match self.whole() {
-            Some(_) => 1,
-            None => 0,
-        }
+        u8::from(self.whole().is_some())
     }
 
     fn kind(&self, pack: u8) -> Result<Kind, ShelfRefusal> {
-        match self.whole() {
-            Some(kind) if pack == 0 => Ok(kind),
-            _ => Err(ShelfRefusal::NoPack),
-        }
+        self.kind_at(pack).ok_or(ShelfRefusal::NoPack)
     }
 
     fn fetch(&self, pack: u8, block: u16, buffer: &mut [u16]) -> Result<Mark, ShelfRefusal> {
-        if buffer.len() != SECTOR_WORDS {
-            return Err(ShelfRefusal::BufferLength);
-        }
-        let from = self.start(pack, block).ok_or(ShelfRefusal::NoSector)?;
-        let words = &*self.words;
-        buffer.copy_from_slice(&words[from..from + SECTOR_WORDS]);
+        let from = self.start(pack, block, buffer)?;
+        buffer.copy_from_slice(&self.words[from..from + SECTOR_WORDS]);
         Ok(Mark::CLEAN)
     }
 
@@ -88,12 +79,8 @@ impl Shelf for FlatShelf<'_> {
         ensures lender { self.new.words.ghost_name ≡ self.old.words.ghost_name }
         ensures slice { self.new.words.now ≡ flat_after self.old.kind self.old.words.now pack block buffer.now }
     {
-        if buffer.len() != SECTOR_WORDS {
-            return Err(ShelfRefusal::BufferLength);
-        }
-        let to = self.start(pack, block).ok_or(ShelfRefusal::NoSector)?;
-        let words = &mut *self.words;
-        words[to..to + SECTOR_WORDS].copy_from_slice(buffer);
+        let to = self.start(pack, block, buffer)?;
+        self.words[to..to + SECTOR_WORDS].copy_from_slice(buffer);
         Ok(())
     }
 }

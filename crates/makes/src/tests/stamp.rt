@@ -11,7 +11,7 @@ use std::test::Fail;
 const RL01_WORDS: usize = 2_621_440;
 
 fn damaged_sevens() -> Stamp {
-    Stamp::new(Kind::Rl01, [7; SECTOR_WORDS], Mark::from_number(2))
+    Stamp::new(Kind::Rl01, [7; SECTOR_WORDS], Mark::from(2))
 }
 
 #[test]
@@ -28,8 +28,8 @@ fn every_sector_is_the_same(rt: HostRuntime) {
     let stamp = damaged_sevens();
     let mut first = [0; SECTOR_WORDS];
     let mut last = [0; SECTOR_WORDS];
-    assert_eq!(rt; stamp.fetch(0, 0, &mut first), Ok(Mark::from_number(2)));
-    assert_eq!(rt; stamp.fetch(0, 20_479, &mut last), Ok(Mark::from_number(2)));
+    assert_eq!(rt; stamp.fetch(0, 0, &mut first), Ok(Mark::from(2)));
+    assert_eq!(rt; stamp.fetch(0, 20_479, &mut last), Ok(Mark::from(2)));
     assert_eq!(rt; first, [7; SECTOR_WORDS]);
     assert_eq!(rt; last, [7; SECTOR_WORDS]);
 }
@@ -66,7 +66,7 @@ fn nothing_takes(rt: HostRuntime) {
         Err(ShelfRefusal::NoSector)
     );
     assert_eq!(rt; stamp.store(0, 0, &[5; 128]), Err(ShelfRefusal::NotTaking));
-    assert_eq!(rt; stamp.fetch(0, 0, &mut buffer), Ok(Mark::from_number(2)));
+    assert_eq!(rt; stamp.fetch(0, 0, &mut buffer), Ok(Mark::from(2)));
     assert_eq!(rt; buffer, [7; SECTOR_WORDS]);
 }
 

@@ -1,31 +1,27 @@
-use Rattle.std.proofs.Common.{set, refl, ap}
-use Rattle.shelves.specs.Cards.{card_packs, deck_left}
-use Rattle.media.specs.Shelf.{left_by, stored, takes_in}
+use Rattle.std.proofs.Common.{sym, refl, ◌∙◌}
 use Rattle.shelves.proofs.CardPacks.{written_own, written_free, refused_full}
 use Rattle.shelves.proofs.cards.CardShelfShelf.store.Goals as goal
 
-pub returns-in-Own : goal.returns-in-Own
-returns-in-Own c =
+pub returns-in-Some : goal.returns-in-Some
+returns-in-Some c =
     let shelf = c.args.self.now in
-    let deck = shelf.cards.now in
-    let facts = written_own shelf.kinds deck c.args.pack c.args.block c.args.buffer.now c.if-buffer-ne-SECTOR_WORDS.false c.if-not-has.ensures c.in-Own.i c.in-Own.ensures.value _ (ap (set deck c.in-Own.i) c.put.ensures) in
+    let checked = sym c.in_ok-check.was ∙ c.check.ensures in
+    let facts = written_own shelf.kinds shelf.cards.now c.args.pack c.args.block c.args.buffer.now checked c.in-Some.i c.overwrite.new.self c.in-Some.ensures c.overwrite.ensures in
     record { reply = facts.reply; after = facts.after; lender = refl; deck = facts.cards }
 
-pub returns-in-Free : goal.returns-in-Free
-returns-in-Free c =
+pub returns-in-Some-free_place : goal.returns-in-Some-free_place
+returns-in-Some-free_place c =
     let shelf = c.args.self.now in
-    let deck = shelf.cards.now in
-    let facts = written_free shelf.kinds deck c.args.pack c.args.block c.args.buffer.now c.if-buffer-ne-SECTOR_WORDS.false c.if-not-has.ensures c.in-Free.i c.in-Free.ensures.value _ (ap (set deck c.in-Free.i) c.put-in-Free.ensures) in
+    let checked = sym c.in_ok-check.was ∙ c.check.ensures in
+    let none = sym c.in_default.is ∙ c.place.ensures in
+    let facts = written_free shelf.kinds shelf.cards.now c.args.pack c.args.block c.args.buffer.now checked c.in-Some-free_place.i c.claim.new.self none c.in-Some-free_place.ensures c.claim.ensures in
     record { reply = facts.reply; after = facts.after; lender = refl; deck = facts.cards }
 
-pub returns-in-Full : goal.returns-in-Full
-returns-in-Full c =
-    let deck = c.args.self.now.cards.now in
-    let shelf = card_packs c.args.self.now.kinds deck in
-    let refused = refused_full c.args.self.now.kinds deck c.args.pack c.args.block c.args.buffer.now c.if-buffer-ne-SECTOR_WORDS.false c.if-not-has.ensures c.in-Full.ensures.value in
-    record {
-      reply = refused;
-      after = ap (λ r. left_by r shelf (stored shelf c.args.pack c.args.block c.args.buffer.now (takes_in shelf))) refused;
-      lender = refl;
-      deck = ap (λ r. deck_left r deck c.args.pack c.args.block c.args.buffer.now) refused;
-    }
+pub returns-in_default-free_place : goal.returns-in_default-free_place
+returns-in_default-free_place c =
+    let shelf = c.args.self.now in
+    let checked = sym c.in_ok-check.was ∙ c.check.ensures in
+    let none = sym c.in_default.is ∙ c.place.ensures in
+    let no_room = sym c.in_default-free_place.is ∙ c.free_place.ensures in
+    let facts = refused_full shelf.kinds shelf.cards.now c.args.pack c.args.block c.args.buffer.now checked none no_room in
+    record { reply = facts.reply; after = facts.after; lender = refl; deck = facts.cards }

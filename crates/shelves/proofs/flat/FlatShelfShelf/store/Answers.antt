@@ -1,26 +1,14 @@
-use Rattle.std.proofs.Common.{◌≡◌, ◌+◌, ◌-◌, sym, refl, ap, ◌∙◌}
-use mathlib.Core.Path.{subst⁻¹}
+use Rattle.std.proofs.Common.{◌≡◌, ◌+◌, ◌-◌, ◌*◌, Ok, arith}
 use borrow.Rule.Slice.PartMut.{put_mid}
-use Rattle.std.specs.Result.{result_ok}
-use Rattle.shelves.specs.Flat.{flat_packs}
-use Rattle.media.specs.Shelf.{after_store, takes_in}
-use Rattle.shelves.proofs.FlatPacks.{accepted, overwritten, stored_flat}
+use Rattle.std.proofs.lemmas.Grind.{common_steps}
+use Rattle.shelves.specs.Flat.{replaced}
+use Rattle.shelves.proofs.FlatPacks.{started, stored_flat}
 use Rattle.shelves.proofs.flat.FlatShelfShelf.store.Goals as goal
 
-pub returns : goal.returns
-returns c =
-    let number = c.args.self.now.kind in
-    let slice = c.args.self.now.words.now in
-    let pack = c.args.pack in
-    let block = c.args.block in
-    let buffer = c.args.buffer.now in
-    let start = c.in_ok-to.to in
-    let long = c.if-buffer-ne-SECTOR_WORDS.false in
-    let found = sym (c.ok_or.ensures.ok_part ∙ ap result_ok c.in_ok-to.was) ∙ c.start.ensures.value in
-    let copied = ap (put_mid start ((start + 128) - start) slice) c.copy_from_slice.ensures.after ∙ overwritten number slice pack block buffer start long found in
-    record {
-      reply = accepted number slice pack block buffer start long found;
-      after = subst⁻¹ (λ slice'. flat_packs number slice' ≡ after_store (flat_packs number slice) pack block buffer (takes_in (flat_packs number slice'))) copied (stored_flat number slice pack block buffer start long found);
-      lender = refl;
-      slice = copied;
-    }
+pub returns-clause-after : goal.returns-clause-after
+returns-clause-after c =
+    let shelf = c.args.self.now in
+    let at = c.in_ok-to.to in
+    let start = started _ at (c.args.block * 128) c.in_ok-to.ensures in
+    let copied : put_mid at (at + 128 - at) shelf.words.now c.copy_from_slice.new.self ≡ replaced (Ok tt) shelf.words.now c.args.block c.args.buffer.now = grind (arith, common_steps) in
+    stored_flat shelf.kind shelf.words.now c.args.pack c.args.block c.args.buffer.now start.0 _ copied
