@@ -23,7 +23,6 @@ use Rattle.script.specs.declared.scripts.Script.{Script}
 use Rattle.script.specs.declared.scripts.ScriptError.{ScriptError}
 use Rattle.script.specs.declared.scripts.ScriptError.TheVariants as script_error
 use Rattle.script.specs.declared.scripts.StepLine.{StepLine}
-use Rattle.script.specs.declared.setup.Card.{Card}
 use Rattle.script.specs.declared.setup.MemorySetup.{MemorySetup}
 use Rattle.script.specs.declared.setup.MemorySetup.TheVariants.{Board}
 use Rattle.script.specs.declared.setup.Setup.{Setup}
@@ -31,6 +30,7 @@ use Rattle.script.specs.declared.setup.Setup.TheVariants as setup
 use Rattle.script.specs.declared.setup.ShelfSetup.{ShelfSetup}
 use Rattle.script.specs.declared.setup.ShelfSetup.TheVariants.{Flat}
 use Rattle.script.specs.declared.steps.Step.{Step}
+use Rattle.shelves.specs.declared.cards.Card.{Card}
 
 -- A call or a look, with the number of its line and the bytes of its echo.
 pub record Told : Type 0 where

@@ -8,9 +8,8 @@ ghost use Rattle.script.specs.declared.setup.Setup.{Setup};
 use crate::faults::Fault;
 use crate::numbers::Base;
 use crate::words::Words;
-
-/// How many words a card holds.
-pub const CARD_WORDS: usize = 128;
+use media::shelf::SECTOR_WORDS;
+use shelves::cards::Card;
 
 /// A shelf of packs.
 #[derive(Clone, Copy, PartialEq, Eq, Debug)]
@@ -19,15 +18,6 @@ pub enum ShelfSetup {
     Flat { kind: u8 },
     /// Eight packs of these kinds, with room for so many cards.
     Cards { kinds: [u8; 8], room: u32 },
-}
-
-/// A card with the words of a sector.
-#[derive(Clone, Copy, PartialEq, Eq, Debug)]
-pub struct Card {
-    pub pack: u8,
-    pub block: u16,
-    pub mark: u8,
-    pub words: [u16; CARD_WORDS],
 }
 
 /// A bus memory.
@@ -108,10 +98,10 @@ fn take_room(words: &mut Words, kinds: [u8; 8]) -> Result<Setup, Fault>
 }
 
 // The words of a card, of which those that the line does not give are zero.
-fn take_contents(words: &mut Words) -> Result<[u16; CARD_WORDS], Fault>
+fn take_contents(words: &mut Words) -> Result<[u16; SECTOR_WORDS], Fault>
     ensures { result ≡ filled 128 words.old }
 {
-    let mut contents = [0; CARD_WORDS];
+    let mut contents = [0; SECTOR_WORDS];
     for place in contents.iter_mut() {
         if words.is_empty() {
             return Ok(contents);
