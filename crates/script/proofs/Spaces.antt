@@ -1,34 +1,22 @@
 -- A line told again word by word.
-use Rattle.std.proofs.Common.{◌≡◌, ℕ, ◌+◌, ◌<◌, Bool, true, false, not, ◌&&◌, eqb, List, [], ◌∷◌, ◌++◌, length, get_or, take, Some, None, sym, refl, ap, ◌∙◌, ⊎_elim, append_assoc, append-nil}
+use Rattle.std.proofs.Common.{◌≡◌, ℕ, Bool, true, false, not, ◌&&◌, eqb, List, [], ◌∷◌, ◌++◌, refl, ap, ⊎_elim, append_assoc}
 use lib.Utf8.{encode, encodes}
-use Rattle.std.proofs.lemmas.List.{take_more}
 use Rattle.std.proofs.lemmas.Str.{encodes-append}
 use Rattle.std.proofs.lemmas.Bool.{cases_Bool, false≢true, not-true, and_parts}
 use Rattle.script.specs.Echoes.{joined, spaced}
-use Rattle.script.specs.Words.{is_blank, begins_word, lengthened, words_of, line_words, first_of, others_of}
-use Rattle.script.proofs.Runs.{led, none_first}
+use Rattle.script.specs.Words.{is_blank, begins_word, lengthened, words_of, line_words}
 
-pub one_byte : (s t w : List ℕ) (i : ℕ) → i < length w → s ≡ t ++ encodes (take i w) → s ++ encode (get_or w i 0) ≡ t ++ encodes (take (i + 1) w)
-one_byte s t w i h e =
-    let c = get_or w i 0 in
-    let split = encodes-append (take i w) (c ∷ []) in
-    let last = append-nil (encode c) in
-    ap (λ x. x ++ encode c) e ∙ append_assoc t (encodes (take i w)) (encode c) ∙ ap (λ x. t ++ x) (ap (λ x. encodes (take i w) ++ x) (sym last) ∙ sym split ∙ ap encodes (sym (take_more w i 0 h)))
+-- a line whose first word is told
+pub told_first : (line ws : List (List ℕ)) (w s : List ℕ) → line ≡ w ∷ ws → s ≡ encodes w → encodes (joined line) ≡ s ++ encodes (spaced ws)
+told_first line ws w s e f = rw (e, f) (encodes-append w (spaced ws))
 
-pub one_word : (whole s w : List ℕ) (ws : List (List ℕ)) → whole ≡ s ++ encodes (spaced (w ∷ ws)) → whole ≡ ((s ++ encode 32) ++ encodes w) ++ encodes (spaced ws)
-one_word whole s w ws e =
-    e ∙ ap (λ x. s ++ (encode 32 ++ x)) (encodes-append w (spaced ws)) ∙ sym (append_assoc s (encode 32) (encodes w ++ encodes (spaced ws))) ∙ sym (append_assoc (s ++ encode 32) (encodes w) (encodes (spaced ws)))
+-- a line of no words
+pub told_none : (line ws : List (List ℕ)) (s : List ℕ) → line ≡ [] → ws ≡ [] → s ≡ [] → encodes (joined line) ≡ s ++ encodes (spaced ws)
+told_none line ws s e f g = rw (e, f, g) refl
 
-pub told_first : (line ws left : List (List ℕ)) (s t w : List ℕ) → ws ≡ line → Some w ≡ first_of ws → left ≡ others_of ws → t ≡ [] → s ≡ t ++ encodes w → encodes (joined line) ≡ s ++ encodes (spaced left)
-told_first line ws left s t w e f g h k =
-    let s_is : s ≡ encodes w = k ∙ ap (λ x. x ++ encodes w) h in
-    ap (λ x. encodes (joined x)) (sym e ∙ led ws w f) ∙ encodes-append w (spaced (others_of ws)) ∙ ap (λ x. x ++ encodes (spaced (others_of ws))) (sym s_is) ∙ ap (λ x. s ++ encodes (spaced x)) (sym g)
-
-pub told_none : (line ws left : List (List ℕ)) (s : List ℕ) → ws ≡ line → None ≡ first_of ws → left ≡ others_of ws → s ≡ [] → encodes (joined line) ≡ s ++ encodes (spaced left)
-told_none line ws left s e f g h =
-    let none = none_first ws f in
-    let none_after : left ≡ [] = g ∙ ap others_of none in
-    ap (λ x. encodes (joined x)) (sym e ∙ none) ∙ sym (rw (h, none_after) refl)
+-- a word more is told
+pub told_more : (whole s t w : List ℕ) (ws : List (List ℕ)) → whole ≡ s ++ encodes (spaced (w ∷ ws)) → t ≡ (s ++ encode 32) ++ encodes w → whole ≡ t ++ encodes (spaced ws)
+told_more whole s t w ws e f = rw (e, f) (simp (append_assoc, encodes-append))
 
 -- a word has bytes, none of which is blank
 abbrev no_blank : List ℕ → Bool

@@ -23,7 +23,6 @@ use Rattle.script.specs.declared.scripts.Script.{Script}
 use Rattle.script.specs.declared.scripts.ScriptError.{ScriptError}
 use Rattle.script.specs.declared.scripts.ScriptError.TheVariants as script_error
 use Rattle.script.specs.declared.scripts.StepLine.{StepLine}
-use Rattle.script.specs.declared.setup.Card.{Card}
 use Rattle.script.specs.declared.setup.MemorySetup.{MemorySetup}
 use Rattle.script.specs.declared.setup.MemorySetup.TheVariants.{Board}
 use Rattle.script.specs.declared.setup.Setup.{Setup}
@@ -31,6 +30,7 @@ use Rattle.script.specs.declared.setup.Setup.TheVariants as setup
 use Rattle.script.specs.declared.setup.ShelfSetup.{ShelfSetup}
 use Rattle.script.specs.declared.setup.ShelfSetup.TheVariants.{Flat}
 use Rattle.script.specs.declared.steps.Step.{Step}
+use Rattle.shelves.specs.declared.cards.Card.{Card}
 
 -- A call or a look, with the number of its line and the bytes of its echo.
 pub record Told : Type 0 where
@@ -156,11 +156,22 @@ finished (Err e) = Err e
 abbrev pub script_of : List ℕ → Result Bench LineFault
 script_of text = finished (read_from 0 empty_plan (lines_of text))
 
+-- The error of a line of this number.
+abbrev pub error_at : ℕ → LineError → ScriptError
+error_at n (line_error.Fault f) = script_error.Line (record { line = n; fault = f })
+error_at n line_error.NoMemory = script_error.NoMemory
+
 -- A part of a script is added as wanted, or its fault is told, or there is no memory.
 abbrev pub Reported : {X : Type 0} → Result X Fault → Result (Unit {0}) LineError → X → Type 0
 Reported want (Ok _) x = want ≡ Ok x
 Reported want (Err (line_error.Fault f)) x = want ≡ Err f
 Reported want (Err line_error.NoMemory) x = Unit {0}
+
+-- A line is added as wanted, or its fault is told with its number, or there is no memory.
+abbrev pub AddedSo : Result Plan LineFault → Result (Unit {0}) ScriptError → Plan → Type 0
+AddedSo want (Ok _) p = want ≡ Ok p
+AddedSo want (Err (script_error.Line f)) p = want ≡ Err f
+AddedSo want (Err script_error.NoMemory) p = Unit {0}
 
 -- A script is read as wanted, or its first fault is told, or there is no memory.
 abbrev pub ReadSo : Result Bench LineFault → Result Script ScriptError → Type 0

@@ -1,7 +1,6 @@
 -- The words of a line.
 use Rattle.std.specs.Prelude.{ℕ, suc, Bool, true, false, not, ◌||◌, List, [], ◌∷◌, Some, None, Option, ◌==◌, if◌then◌else◌}
 use Rattle.std.specs.Bool.{beq}
-use Rattle.script.specs.declared.words.Words.{Words}
 
 -- A space, a tab and a carriage return are blank.
 abbrev pub is_blank : ℕ → Bool
@@ -31,10 +30,6 @@ words_of (c ∷ cs) = if is_blank c then words_of cs else if begins_word cs then
 abbrev pub line_words : List ℕ → List (List ℕ)
 line_words [] = []
 line_words (c ∷ cs) = if c == 35 then [] else words_of (c ∷ cs)
-
--- The words of a line that are yet to be read.
-abbrev pub words_left : Words → List (List ℕ)
-words_left ws = words_of ws.rest.now
 
 -- Whether there is no word.
 abbrev pub none_left : List (List ℕ) → Bool

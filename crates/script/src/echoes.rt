@@ -16,7 +16,7 @@ pub(crate) fn echo(heap: Global, line: &[u8]) -> Result<String, AllocError>
     if let Some(word) = words.next() {
         push_word(&mut text, word)?;
     }
-    while let Some(word) = words.next() {
+    for word in words {
         text.push(' ')?;
         push_word(&mut text, word)?;
     }
@@ -26,8 +26,5 @@ pub(crate) fn echo(heap: Global, line: &[u8]) -> Result<String, AllocError>
 fn push_word(text: &mut String, word: &[u8]) -> Result<(), AllocError>
     ensures { OnOk result (string_bytes text.new ≡ string_bytes text.old ++ encodes word.now) }
 {
-    for byte in word {
-        text.push(char::from(*byte))?;
-    }
-    Ok(())
+    text.extend(word.iter().map(|byte| char::from(*byte)))
 }

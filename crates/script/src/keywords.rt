@@ -1,11 +1,12 @@
 // The first word of a line.
 ghost use Rattle.std.specs.Prelude.{◌≡◌};
-ghost use Rattle.script.specs.Keywords.{keyword_of};
+ghost use Rattle.std.specs.Option.{ok_or};
+ghost use Rattle.script.specs.declared.faults.Fault.TheVariants.{UnknownWord};
 
-use crate::words::same;
+use crate::faults::Fault;
 
 /// The first word of a line, which says what the line is.
-#[derive(Clone, Copy)]
+#[derive(Clone, Copy, PartialEq, Eq, Debug)]
 pub(crate) enum Keyword {
     Drives,
     Shelf,
@@ -23,41 +24,30 @@ pub(crate) enum Keyword {
     Kind,
 }
 
-impl Keyword {
-    /// The keyword that a word is, if it is one.
-    pub(crate) fn from_word(word: &[u8]) -> Option<Keyword>
-        ensures { result ≡ keyword_of word.now }
-    {
-        if same(word, b"drives") {
-            Some(Keyword::Drives)
-        } else if same(word, b"shelf") {
-            Some(Keyword::Shelf)
-        } else if same(word, b"card") {
-            Some(Keyword::Card)
-        } else if same(word, b"memory") {
-            Some(Keyword::Memory)
-        } else if same(word, b"poke") {
-            Some(Keyword::Poke)
-        } else if same(word, b"read") {
-            Some(Keyword::Read)
-        } else if same(word, b"write") {
-            Some(Keyword::Write)
-        } else if same(word, b"init") {
-            Some(Keyword::Init)
-        } else if same(word, b"grant") {
-            Some(Keyword::Grant)
-        } else if same(word, b"load") {
-            Some(Keyword::Load)
-        } else if same(word, b"unload") {
-            Some(Keyword::Unload)
-        } else if same(word, b"protect") {
-            Some(Keyword::Protect)
-        } else if same(word, b"sector") {
-            Some(Keyword::Sector)
-        } else if same(word, b"kind") {
-            Some(Keyword::Kind)
-        } else {
-            None
+impl TryFrom<&[u8]> for Keyword {
+    ghost use Rattle.script.specs.Keywords.{keyword_of};
+
+    type Error = Fault;
+
+    ghost try_from_gives = { λ word r. r ≡ ok_or (keyword_of word.now) UnknownWord };
+
+    fn try_from(word: &[u8]) -> Result<Keyword, Fault> {
+        match word {
+            b"drives" => Ok(Keyword::Drives),
+            b"shelf" => Ok(Keyword::Shelf),
+            b"card" => Ok(Keyword::Card),
+            b"memory" => Ok(Keyword::Memory),
+            b"poke" => Ok(Keyword::Poke),
+            b"read" => Ok(Keyword::Read),
+            b"write" => Ok(Keyword::Write),
+            b"init" => Ok(Keyword::Init),
+            b"grant" => Ok(Keyword::Grant),
+            b"load" => Ok(Keyword::Load),
+            b"unload" => Ok(Keyword::Unload),
+            b"protect" => Ok(Keyword::Protect),
+            b"sector" => Ok(Keyword::Sector),
+            b"kind" => Ok(Keyword::Kind),
+            _ => Err(Fault::UnknownWord),
         }
     }
 }

@@ -10,5 +10,4 @@ mod numbers;
 pub mod scripts;
 pub mod setup;
 pub mod steps;
-mod texts;
 mod words;

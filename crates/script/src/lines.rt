@@ -1,7 +1,7 @@
 // A line of a script.
 ghost use Rattle.std.specs.Prelude.{◌≡◌};
-ghost use Rattle.script.specs.Lines.{as_setup, as_step, memory_line, keyword_line, line_of};
-ghost use Rattle.script.specs.Words.{words_left, line_words};
+ghost use Rattle.script.specs.Lines.{memory_line, keyword_line, line_of};
+ghost use Rattle.script.specs.Words.{line_words};
 
 use crate::faults::Fault;
 use crate::keywords::Keyword;
@@ -11,11 +11,11 @@ use crate::steps::{
     Step, take_kind, take_load, take_memory, take_protect, take_read, take_sector, take_unload,
     take_write,
 };
-use crate::words::{Words, same};
+use crate::words::Words;
 use exchanges::calls::Call;
 
 /// What a line of a script says.
-#[derive(Clone, Copy)]
+#[derive(Clone, Copy, PartialEq, Eq, Debug)]
 pub(crate) enum Line {
     /// Nothing.
     Blank,
@@ -23,54 +23,39 @@ pub(crate) enum Line {
     Step(Step),
 }
 
-fn setup_line(setup: Result<Setup, Fault>) -> Result<Line, Fault>
-    ensures { result ≡ as_setup setup }
-{
-    Ok(Line::Setup(setup?))
-}
-
-fn step_line(step: Result<Step, Fault>) -> Result<Line, Fault>
-    ensures { result ≡ as_step step }
-{
-    Ok(Line::Step(step?))
-}
-
 // Memory is set up as a board or as a stack; or else it is looked at.
 fn memory_line(words: &mut Words) -> Result<Line, Fault>
-    ensures { result ≡ memory_line (words_left words.old) }
+    ensures { result ≡ memory_line words.old }
 {
-    let Some(word) = words.next() else {
-        return Err(Fault::MissingWord);
-    };
-    if same(word, b"board") {
-        return setup_line(take_board(words));
+    match words.next_word()? {
+        b"board" => take_board(words).map(Line::Setup),
+        b"stack" => take_stack(words).map(Line::Setup),
+        word => {
+            let address = number(word, Base::Octal, u32::MAX)?;
+            take_memory(words, address).map(Line::Step)
+        }
     }
-    if same(word, b"stack") {
-        return setup_line(take_stack(words));
-    }
-    let address = number(word, Base::Octal, u32::MAX)?;
-    step_line(take_memory(words, address))
 }
 
 // What a line says whose first word was taken.
 fn keyword_line(keyword: Keyword, words: &mut Words) -> Result<Line, Fault>
-    ensures { result ≡ keyword_line keyword (words_left words.old) }
+    ensures { result ≡ keyword_line keyword words.old }
 {
     match keyword {
-        Keyword::Drives => setup_line(take_drives(words)),
-        Keyword::Shelf => setup_line(take_shelf(words)),
-        Keyword::Card => setup_line(take_card(words)),
+        Keyword::Drives => take_drives(words).map(Line::Setup),
+        Keyword::Shelf => take_shelf(words).map(Line::Setup),
+        Keyword::Card => take_card(words).map(Line::Setup),
         Keyword::Memory => memory_line(words),
-        Keyword::Poke => setup_line(take_poke(words)),
-        Keyword::Read => step_line(take_read(words)),
-        Keyword::Write => step_line(take_write(words)),
-        Keyword::Init => step_line(words.close(Step::Call(Call::Init))),
-        Keyword::Grant => step_line(words.close(Step::Call(Call::Grant))),
-        Keyword::Load => step_line(take_load(words)),
-        Keyword::Unload => step_line(take_unload(words)),
-        Keyword::Protect => step_line(take_protect(words)),
-        Keyword::Sector => step_line(take_sector(words)),
-        Keyword::Kind => step_line(take_kind(words)),
+        Keyword::Poke => take_poke(words).map(Line::Setup),
+        Keyword::Read => take_read(words).map(Line::Step),
+        Keyword::Write => take_write(words).map(Line::Step),
+        Keyword::Init => words.close(Line::Step(Step::Call(Call::Init))),
+        Keyword::Grant => words.close(Line::Step(Step::Call(Call::Grant))),
+        Keyword::Load => take_load(words).map(Line::Step),
+        Keyword::Unload => take_unload(words).map(Line::Step),
+        Keyword::Protect => take_protect(words).map(Line::Step),
+        Keyword::Sector => take_sector(words).map(Line::Step),
+        Keyword::Kind => take_kind(words).map(Line::Step),
     }
 }
 
@@ -82,8 +67,5 @@ pub(crate) fn read_line(line: &[u8]) -> Result<Line, Fault>
     let Some(word) = words.next() else {
         return Ok(Line::Blank);
     };
-    match Keyword::from_word(word) {
-        Some(keyword) => keyword_line(keyword, &mut words),
-        None => Err(Fault::UnknownWord),
-    }
+    keyword_line(Keyword::try_from(word)?, &mut words)
 }

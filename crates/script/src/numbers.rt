@@ -5,7 +5,7 @@ ghost use Rattle.script.specs.Numbers.{radix_of, digit_of, number_of};
 use crate::faults::Fault;
 
 /// How a number is written.
-#[derive(Clone, Copy)]
+#[derive(Clone, Copy, PartialEq, Eq, Debug)]
 pub(crate) enum Base {
     Octal,
     Decimal,
@@ -55,4 +55,11 @@ pub(crate) fn number(word: &[u8], base: Base, limit: u32) -> Result<u32, Fault>
         return Err(Fault::TooLarge);
     }
     Ok(value as u32)
+}
+
+/// The number of 16 bits that a word writes.
+pub(crate) fn number_u16(word: &[u8], base: Base) -> Result<u16, Fault>
+    ensures { result ≡ number_of base 65535 word.now }
+{
+    Ok(number(word, base, u32::from(u16::MAX))? as u16)
 }

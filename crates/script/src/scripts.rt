@@ -1,18 +1,19 @@
 // A whole script.
-ghost use Rattle.std.specs.Prelude.{◌≡◌, ◌++◌, Ok};
+ghost use Rattle.std.specs.Prelude.{◌≡◌, ◌++◌, Some, None, Ok, IsSome, OnOk, IfErr};
 ghost use Rattle.script.specs.Arguments.{and_then};
-ghost use Rattle.script.specs.Scripts.{plan_of, empty_plan, bench_of, settled, with_drives, with_shelf, with_memory, with_card, with_pokes, with_step, told_of, poked, poke_lines, set_up, line_added, script_of, Reported, ReadSo};
-ghost use Rattle.script.specs.Words.{words_left, line_words, others_of};
+ghost use Rattle.script.specs.Scripts.{plan_of, empty_plan, bench_of, settled, with_pokes, with_step, told_of, poked, poke_lines, set_up, line_added, error_at, numbered, script_of, Reported, AddedSo, ReadSo};
+ghost use Rattle.script.specs.Words.{line_words, others_of};
+ghost use Rattle.script.specs.declared.faults.Fault.TheVariants.{SetupTwice};
 ghost use Rattle.script.specs.declared.scripts.LineError.TheVariants as line_error;
 
 use crate::echoes::echo;
 use crate::faults::{Fault, LineFault};
 use crate::lines::{Line, read_line};
-use crate::numbers::Base;
-use crate::setup::{Card, MemorySetup, Setup, ShelfSetup};
+use crate::numbers::{Base, number_u16};
+use crate::setup::{MemorySetup, Setup, ShelfSetup};
 use crate::steps::Step;
-use crate::texts::TextLines;
 use crate::words::Words;
+use shelves::cards::Card;
 use std::alloc::{AllocError, AllocFailed, Global};
 use std::error::Error;
 use std::fmt;
@@ -25,7 +26,7 @@ pub struct CardLine {
 }
 
 /// A word put into memory, with the number of its line.
-#[derive(Clone, Copy)]
+#[derive(Clone, Copy, PartialEq, Eq, Debug)]
 pub struct PokeLine {
     pub line: usize,
     pub address: u32,
@@ -57,9 +58,17 @@ pub struct Script {
     pub steps: Vec<StepLine>,
 }
 
+// A line of a script, with its number from 1 on.
+#[derive(Clone, Copy)]
+struct SourceLine<'a> {
+    number: usize,
+    text: &'a [u8],
+}
+
 // A script of which some lines are read.
 #[derive(Drop)]
 struct Draft {
+    heap: Global,
     drives: Option<[u8; 4]>,
     shelf: Option<ShelfSetup>,
     memory: Option<MemorySetup>,
@@ -89,7 +98,7 @@ impl fmt::Display for ScriptError {
 impl Error for ScriptError {}
 
 // Why a line is not added to a script.
-#[derive(Clone, Copy)]
+#[derive(Clone, Copy, PartialEq, Eq, Debug)]
 enum LineError {
     Fault(Fault),
     NoMemory,
@@ -120,12 +129,25 @@ impl<T: Drop> From<AllocFailed<T>> for LineError {
     }
 }
 
+impl LineError {
+    // The error of a line of this number.
+    fn at(self, line: usize) -> ScriptError
+        ensures { result ≡ error_at line self }
+    {
+        match self {
+            LineError::Fault(fault) => ScriptError::Line(LineFault { line, fault }),
+            LineError::NoMemory => ScriptError::NoMemory,
+        }
+    }
+}
+
 impl Draft {
     // No line is read.
     fn new(heap: Global) -> Draft
         ensures { plan_of result ≡ empty_plan }
     {
         Draft {
+            heap,
             drives: None,
             shelf: None,
             memory: None,
@@ -139,138 +161,107 @@ impl Draft {
     fn finish(self) -> Script
         ensures { bench_of result ≡ settled (plan_of self) }
     {
-        let Draft {
-            drives,
-            shelf,
-            memory,
-            cards,
-            pokes,
-            steps,
-        } = self;
         Script {
-            drives: drives.unwrap_or([0; 4]),
-            shelf: shelf.unwrap_or(ShelfSetup::Flat { kind: 1 }),
-            memory: memory.unwrap_or(MemorySetup::Board { words: 0 }),
-            cards,
-            pokes,
-            steps,
+            drives: self.drives.unwrap_or([0; 4]),
+            shelf: self.shelf.unwrap_or(ShelfSetup::Flat { kind: 1 }),
+            memory: self.memory.unwrap_or(MemorySetup::Board { words: 0 }),
+            cards: self.cards,
+            pokes: self.pokes,
+            steps: self.steps,
         }
     }
 
-    fn set_drives(&mut self, kinds: [u8; 4]) -> Result<(), LineError>
-        ensures { Reported (with_drives kinds (plan_of self.old)) result (plan_of self.new) }
+    fn add_pokes(&mut self, line: &SourceLine, address: u32) -> Result<(), LineError>
+        ensures { Reported (and_then (poke_lines line.now.number address (others_of (others_of (line_words line.now.text.now)))) (λ ps. Ok (with_pokes ps (plan_of self.old)))) result (plan_of self.new) }
     {
-        if self.drives.is_some() {
-            return Err(LineError::Fault(Fault::SetupTwice));
-        }
-        self.drives = Some(kinds);
-        Ok(())
-    }
-
-    fn set_shelf(&mut self, shelf: ShelfSetup) -> Result<(), LineError>
-        ensures { Reported (with_shelf shelf (plan_of self.old)) result (plan_of self.new) }
-    {
-        if self.shelf.is_some() {
-            return Err(LineError::Fault(Fault::SetupTwice));
-        }
-        self.shelf = Some(shelf);
-        Ok(())
-    }
-
-    fn set_memory(&mut self, memory: MemorySetup) -> Result<(), LineError>
-        ensures { Reported (with_memory memory (plan_of self.old)) result (plan_of self.new) }
-    {
-        if self.memory.is_some() {
-            return Err(LineError::Fault(Fault::SetupTwice));
-        }
-        self.memory = Some(memory);
-        Ok(())
-    }
-
-    fn add_card(&mut self, number: usize, card: Card) -> Result<(), LineError>
-        ensures { Reported (Ok (with_card number card (plan_of self.old))) result (plan_of self.new) }
-    {
-        self.cards.push(CardLine { line: number, card })?;
-        Ok(())
-    }
-
-    fn add_poke(&mut self, number: usize, line: &[u8], address: u32) -> Result<(), LineError>
-        ensures { Reported (and_then (poke_lines number address (others_of (others_of (line_words line.now)))) (λ ps. Ok (with_pokes ps (plan_of self.old)))) result (plan_of self.new) }
-    {
-        let mut words = Words::of_line(line);
+        let mut words = Words::of_line(line.text);
         // The keyword and the address.
         let _ = words.next();
         let _ = words.next();
         if words.is_empty() {
-            return Err(LineError::Fault(Fault::MissingWord));
+            return Err(Fault::MissingWord.into());
         }
-        push_pokes(&mut self.pokes, &mut words, number, address)
+        push_pokes(&mut self.pokes, &mut words, line.number, address)
     }
 
-    fn add_step(
-        &mut self,
-        heap: Global,
-        number: usize,
-        line: &[u8],
-        step: Step,
-    ) -> Result<(), LineError>
-        ensures { Reported (Ok (with_step (told_of number step (line_words line.now)) (plan_of self.old))) result (plan_of self.new) }
+    fn add_step(&mut self, line: &SourceLine, step: Step) -> Result<(), LineError>
+        ensures { Reported (Ok (with_step (told_of line.now.number step (line_words line.now.text.now)) (plan_of self.old))) result (plan_of self.new) }
     {
-        let echo = echo(heap, line)?;
+        let echo = echo(self.heap, line.text)?;
         self.steps.push(StepLine {
-            line: number,
+            line: line.number,
             step,
             echo,
         })?;
         Ok(())
     }
 
-    fn add_setup(&mut self, number: usize, line: &[u8], setup: Setup) -> Result<(), LineError>
-        ensures { Reported (set_up number (line_words line.now) setup (plan_of self.old)) result (plan_of self.new) }
+    fn add_setup(&mut self, line: &SourceLine, setup: Setup) -> Result<(), LineError>
+        ensures { Reported (set_up line.now.number (line_words line.now.text.now) setup (plan_of self.old)) result (plan_of self.new) }
     {
         match setup {
-            Setup::Drives(kinds) => self.set_drives(kinds),
-            Setup::Shelf(shelf) => self.set_shelf(shelf),
-            Setup::Card(card) => self.add_card(number, card),
-            Setup::Memory(memory) => self.set_memory(memory),
-            Setup::Poke { address } => self.add_poke(number, line, address),
+            Setup::Drives(kinds) => set_once(&mut self.drives, kinds)?,
+            Setup::Shelf(shelf) => set_once(&mut self.shelf, shelf)?,
+            Setup::Card(card) => self.cards.push(CardLine {
+                line: line.number,
+                card,
+            })?,
+            Setup::Memory(memory) => set_once(&mut self.memory, memory)?,
+            Setup::Poke { address } => self.add_pokes(line, address)?,
+        }
+        Ok(())
+    }
+
+    fn add_line(&mut self, line: &SourceLine) -> Result<(), LineError>
+        ensures { Reported (line_added line.now.number line.now.text.now (plan_of self.old)) result (plan_of self.new) }
+    {
+        match read_line(line.text)? {
+            Line::Blank => Ok(()),
+            Line::Setup(_) if !self.steps.is_empty() => Err(Fault::LateSetup.into()),
+            Line::Setup(setup) => self.add_setup(line, setup),
+            Line::Step(step) => self.add_step(line, step),
         }
     }
 
-    fn add_line(&mut self, heap: Global, number: usize, line: &[u8]) -> Result<(), LineError>
-        ensures { Reported (line_added number line.now (plan_of self.old)) result (plan_of self.new) }
+    // Adds a line, whose error has its number.
+    fn add_numbered(&mut self, line: &SourceLine) -> Result<(), ScriptError>
+        ensures { AddedSo (numbered line.now.number (line_added line.now.number line.now.text.now (plan_of self.old)) Ok) result (plan_of self.new) }
     {
-        match read_line(line)? {
-            Line::Blank => Ok(()),
-            Line::Setup(setup) => {
-                if !self.steps.is_empty() {
-                    return Err(LineError::Fault(Fault::LateSetup));
-                }
-                self.add_setup(number, line, setup)
-            }
-            Line::Step(step) => self.add_step(heap, number, line, step),
-        }
+        let number = line.number;
+        self.add_line(line).map_err(|error| error.at(number))
     }
+}
+
+// Fills a place that is still empty.
+fn set_once<T: Drop>(place: &mut Option<T>, value: T) -> Result<(), Fault>
+    ensures ok { OnOk result ((place.old ≡ None) × (place.new ≡ Some value)) }
+    ensures err { IfErr result (λ fault. (fault ≡ SetupTwice) × IsSome place.old) }
+{
+    if place.is_some() {
+        return Err(Fault::SetupTwice);
+    }
+    *place = Some(value);
+    Ok(())
 }
 
 // Words for memory, as many as the line has.
 fn push_pokes(
     pokes: &mut Vec<PokeLine>,
     words: &mut Words,
-    number: usize,
+    line: usize,
     address: u32,
 ) -> Result<(), LineError>
-    ensures { Reported (and_then (poked number address (words_left words.old)) (λ ps. Ok (pokes.old.items ++ ps))) result pokes.new.items }
+    ensures { Reported (and_then (poked line address words.old) (λ ps. Ok (pokes.old.items ++ ps))) result pokes.new.items }
 {
-    let mut at = address;
-    while !words.is_empty() {
-        let word = words.take_u16(Base::Octal)?;
+    let mut address = address;
+    for word in words {
+        let word = number_u16(word, Base::Octal)?;
         pokes.push(PokeLine {
-            line: number,
-            address: at,
+            line,
+            address,
             word,
         })?;
-        at = at.saturating_add(2);
+        address = address.saturating_add(2);
     }
     Ok(())
 }
@@ -280,20 +271,12 @@ pub fn read_script(heap: Global, text: &[u8]) -> Result<Script, ScriptError>
     ensures { ReadSo (script_of text.now) result }
 {
     let mut draft = Draft::new(heap);
-    let mut lines = TextLines::of_text(text);
-    let mut number: usize = 0;
-    while let Some(line) = lines.next() {
-        number += 1;
-        match draft.add_line(heap, number, line) {
-            Ok(()) => {}
-            Err(LineError::Fault(fault)) => {
-                return Err(ScriptError::Line(LineFault {
-                    line: number,
-                    fault,
-                }));
-            }
-            Err(LineError::NoMemory) => return Err(ScriptError::NoMemory),
-        }
+    for (at, text) in text.split(|byte| *byte == b'\n').enumerate() {
+        let line = SourceLine {
+            number: at + 1,
+            text,
+        };
+        draft.add_numbered(&line)?;
     }
     Ok(draft.finish())
 }

@@ -1,7 +1,6 @@
 // Calls and looks, as a script has them.
 ghost use Rattle.std.specs.Prelude.{◌≡◌};
 ghost use Rattle.script.specs.Steps.{read_step, write_step, load_step, unload_step, protect_step, sector_step, memory_step, kind_step};
-ghost use Rattle.script.specs.Words.{words_left};
 
 use crate::faults::Fault;
 use crate::numbers::Base;
@@ -28,7 +27,7 @@ pub enum Step {
 
 /// A bus read: an address.
 pub(crate) fn take_read(words: &mut Words) -> Result<Step, Fault>
-    ensures { result ≡ read_step (words_left words.old) }
+    ensures { result ≡ read_step words.old }
 {
     let address = words.take_number(Base::Octal, u32::MAX)?;
     words.close(Step::Call(Call::Read { address }))
@@ -36,7 +35,7 @@ pub(crate) fn take_read(words: &mut Words) -> Result<Step, Fault>
 
 /// A bus write: an address and a word.
 pub(crate) fn take_write(words: &mut Words) -> Result<Step, Fault>
-    ensures { result ≡ write_step (words_left words.old) }
+    ensures { result ≡ write_step words.old }
 {
     let address = words.take_number(Base::Octal, u32::MAX)?;
     let word = words.take_u16(Base::Octal)?;
@@ -45,7 +44,7 @@ pub(crate) fn take_write(words: &mut Words) -> Result<Step, Fault>
 
 /// A load press: a unit and a pack.
 pub(crate) fn take_load(words: &mut Words) -> Result<Step, Fault>
-    ensures { result ≡ load_step (words_left words.old) }
+    ensures { result ≡ load_step words.old }
 {
     let unit = words.take_u8()?;
     let pack = words.take_u8()?;
@@ -54,7 +53,7 @@ pub(crate) fn take_load(words: &mut Words) -> Result<Step, Fault>
 
 /// An unload press: a unit.
 pub(crate) fn take_unload(words: &mut Words) -> Result<Step, Fault>
-    ensures { result ≡ unload_step (words_left words.old) }
+    ensures { result ≡ unload_step words.old }
 {
     let unit = words.take_u8()?;
     words.close(Step::Call(Call::Unload { unit }))
@@ -62,7 +61,7 @@ pub(crate) fn take_unload(words: &mut Words) -> Result<Step, Fault>
 
 /// A press of the protect switch: a unit.
 pub(crate) fn take_protect(words: &mut Words) -> Result<Step, Fault>
-    ensures { result ≡ protect_step (words_left words.old) }
+    ensures { result ≡ protect_step words.old }
 {
     let unit = words.take_u8()?;
     words.close(Step::Call(Call::Protect { unit }))
@@ -70,7 +69,7 @@ pub(crate) fn take_protect(words: &mut Words) -> Result<Step, Fault>
 
 /// A look at a sector: a pack and a block.
 pub(crate) fn take_sector(words: &mut Words) -> Result<Step, Fault>
-    ensures { result ≡ sector_step (words_left words.old) }
+    ensures { result ≡ sector_step words.old }
 {
     let pack = words.take_u8()?;
     let block = words.take_u16(Base::Decimal)?;
@@ -79,7 +78,7 @@ pub(crate) fn take_sector(words: &mut Words) -> Result<Step, Fault>
 
 /// A look at memory from an address on: how many words.
 pub(crate) fn take_memory(words: &mut Words, address: u32) -> Result<Step, Fault>
-    ensures { result ≡ memory_step address (words_left words.old) }
+    ensures { result ≡ memory_step address words.old }
 {
     let count = words.take_number(Base::Decimal, u32::MAX)?;
     words.close(Step::Look(Look::Memory { address, count }))
@@ -87,7 +86,7 @@ pub(crate) fn take_memory(words: &mut Words, address: u32) -> Result<Step, Fault
 
 /// A look at the kind of a pack.
 pub(crate) fn take_kind(words: &mut Words) -> Result<Step, Fault>
-    ensures { result ≡ kind_step (words_left words.old) }
+    ensures { result ≡ kind_step words.old }
 {
     let pack = words.take_u8()?;
     words.close(Step::Look(Look::Kind { pack }))

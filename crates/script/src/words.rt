@@ -1,8 +1,10 @@
 // The words of a line.
-ghost use Rattle.std.specs.Prelude.{◌≡◌, ◌≤◌, length};
-ghost use Rattle.std.specs.Option.{option_map};
-ghost use Rattle.std.specs.Str.{bytes_eq};
-ghost use Rattle.script.specs.Words.{is_blank, run_length, line_words, words_left, none_left, first_of, others_of};
+ghost use Rattle.std.specs.Prelude.{◌≡◌, ℕ, ◌≤◌, List, length, not, position};
+ghost use Rattle.std.specs.List.{position_or_len};
+ghost use Rattle.std.specs.Iterator.{YieldsFirstBy, item_count};
+ghost use Rattle.script.specs.Words.{is_blank, words_of, line_words, none_left};
+
+use std::marker::Model;
 
 /// The words of a line that are yet to be read.
 #[derive(Drop)]
@@ -10,42 +12,40 @@ pub(crate) struct Words<'a> {
     rest: &'a [u8],
 }
 
-/// Whether a byte parts words: a space, a tab or a carriage return.
-pub(crate) fn is_blank(byte: u8) -> bool
+impl<'a> Model for Words<'a> {
+    ghost Value = { List (List ℕ) };
+
+    ghost view = { λ words. words_of words.rest.now };
+}
+
+// Whether a byte parts words: a space, a tab or a carriage return.
+fn is_blank(byte: u8) -> bool
     ensures { result ≡ is_blank byte }
 {
-    byte == b' ' || byte == b'\t' || byte == b'\r'
+    matches!(byte, b' ' | b'\t' | b'\r')
 }
 
-/// Whether two words are spelt alike.
-pub(crate) fn same(word: &[u8], spelling: &[u8]) -> bool
-    ensures { result ≡ bytes_eq word.now spelling.now }
+// Where the first word begins, if there is one.
+fn word_start(bytes: &[u8]) -> Option<usize>
+    ensures { result ≡ position (λ b. not (is_blank b)) bytes.now }
 {
-    word == spelling
+    bytes.iter().position(|byte| !is_blank(*byte))
 }
 
-// How many bytes at the front are blank, or how many are not.
-fn run_length(bytes: &[u8], blank: bool) -> usize
-    ensures value { result ≡ run_length blank bytes.now }
+// How many bytes stand before the first blank.
+fn word_len(bytes: &[u8]) -> usize
+    ensures value { result ≡ position_or_len is_blank bytes.now }
     ensures within { result ≤ length bytes.now }
 {
-    for (at, byte) in bytes.iter().enumerate() {
-        if is_blank(*byte) != blank {
-            return at;
-        }
-    }
-    bytes.len()
+    bytes.iter().take_while(|byte| !is_blank(**byte)).count()
 }
 
 impl<'a> Words<'a> {
     /// The words of a line; a line that begins with `#` has none.
     pub(crate) fn of_line(line: &'a [u8]) -> Words<'a>
-        ensures { words_left result ≡ line_words line.now }
+        ensures { result ≡ line_words line.now }
     {
-        if line.is_empty() {
-            return Words { rest: line };
-        }
-        if line[0] == b'#' {
+        if line.starts_with(b"#") {
             Words { rest: &[] }
         } else {
             Words { rest: line }
@@ -54,19 +54,23 @@ impl<'a> Words<'a> {
 
     /// Whether no word is left.
     pub(crate) fn is_empty(&self) -> bool
-        ensures { result ≡ none_left (words_left self.now) }
+        ensures { result ≡ none_left self.now }
     {
-        run_length(self.rest, true) == self.rest.len()
+        word_start(self.rest).is_none()
     }
+}
 
-    /// Takes the first of the words.
-    pub(crate) fn next(&mut self) -> Option<&'a [u8]>
-        ensures word { option_map (λ x. x.now) result ≡ first_of (words_left self.old) }
-        ensures left { words_left self.new ≡ others_of (words_left self.old) }
-    {
-        let (_, line) = self.rest.split_at(run_length(self.rest, true));
-        let (word, rest) = line.split_at(run_length(line, false));
+impl<'a> Iterator for Words<'a> {
+    type Item = &'a [u8];
+
+    ghost next_gives = { YieldsFirstBy (λ word. word.now) (λ words. words) };
+
+    ghost remaining = { item_count (λ words. words) };
+
+    fn next(&mut self) -> Option<&'a [u8]> {
+        let (_, line) = self.rest.split_at(word_start(self.rest)?);
+        let (word, rest) = line.split_at(word_len(line));
         self.rest = rest;
-        if word.is_empty() { None } else { Some(word) }
+        Some(word)
     }
 }

@@ -1,9 +1,11 @@
 // Scripts that are read.
 use crate::support::has_step;
 use exchanges::calls::Call;
+use media::shelf::SECTOR_WORDS;
 use script::scripts::{CardLine, PokeLine, Script, read_script};
-use script::setup::{CARD_WORDS, Card, MemorySetup, ShelfSetup};
+use script::setup::{MemorySetup, ShelfSetup};
 use script::steps::{Look, Step};
+use shelves::cards::Card;
 use std::process::Abort;
 use std::test::Fail;
 
@@ -42,7 +44,7 @@ fn a_bench_of_cards(rt: HostRuntime) -> Result<(), Fail> {
         upper: 8,
     };
     assert_eq!(rt; script.memory, stack);
-    let mut words = [0; CARD_WORDS];
+    let mut words = [0; SECTOR_WORDS];
     words[0] = 0o177777;
     words[1] = 5;
     let card = Card {

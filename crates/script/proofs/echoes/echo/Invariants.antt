@@ -1,11 +1,8 @@
-use Rattle.std.proofs.Common.{◌≡◌, ◌++◌, length, string_bytes}
+use Rattle.std.proofs.Common.{◌≡◌, ◌++◌, string_bytes}
 use lib.Utf8.{encodes}
 use Rattle.script.specs.Echoes.{joined, spaced}
-use Rattle.script.specs.Words.{words_left, line_words}
+use Rattle.script.specs.Words.{line_words}
 use Rattle.script.proofs.echoes.echo.Given as goal
 
 abbrev pub invariant-loop-word : goal.invariant-loop-word
-invariant-loop-word l = encodes (joined (line_words l.line)) ≡ string_bytes l.text ++ encodes (spaced (words_left l.words))
-
-abbrev pub decreases-loop-word : goal.decreases-loop-word
-decreases-loop-word l = length (words_left l.words)
+invariant-loop-word l = encodes (joined (line_words l.line)) ≡ string_bytes l.text ++ encodes (spaced l.word-iterator)

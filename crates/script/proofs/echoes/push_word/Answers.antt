@@ -1,14 +1,9 @@
-use Rattle.std.proofs.Common.{◌≤◌, ◌++◌, length, string_bytes, ap, ◌∙◌, arith, take_all}
-use lib.Utf8.{encode, encodes}
-use Rattle.script.proofs.Spaces.{one_byte}
+use Rattle.std.proofs.Common.{rules, tests}
+use Rattle.std.proofs.lemmas.Iterator.{YieldsList-from_slice, YieldsList-from_map}
+use Rattle.std.proofs.lemmas.Iterator.Adapters.{items_from_extend}
+use Rattle.std.proofs.lemmas.List.{map-id}
 use Rattle.script.proofs.echoes.push_word.Goals as goal
-
-pub loop-byte-preserved : goal.loop-byte-preserved
-loop-byte-preserved c =
-    c.in_ok-push.ensures.bytes ∙ ap (λ x. string_bytes c.loop-byte.text ++ encode x) c.from.ensures ∙ one_byte (string_bytes c.loop-byte.text) (string_bytes c.args.text.now) c.args.word.now c.loop-byte.byte-index (omega arith) c.loop-byte.invariant
 
 pub returns : goal.returns
 returns c =
-    let w = c.args.word.now in
-    let long : length w ≤ c.loop-byte.byte-index = omega arith in
-    c.loop-byte.invariant ∙ ap (λ x. string_bytes c.args.text.now ++ encodes x) (take_all c.loop-byte.byte-index w long)
+    simp map-id at (items_from_extend c.extend.result c.extend.ensures.ran (YieldsList-from_map _ (λ b. b) (YieldsList-from_slice c.args.word.now cc) c.map.ensures.closure (λ x r q k. search (rules, tests))))
