@@ -1,5 +1,6 @@
 -- What a look shows, as text.
-use Rattle.std.specs.Prelude.{ℕ, zero, suc, ◌+◌, min, List, [], ◌∷◌, ◌++◌, Some, None, Ok, Err, codes, decimal, Option, Result}
+use Rattle.std.specs.Prelude.{ℕ, zero, suc, ◌+◌, min, List, [], ◌++◌, Some, None, Ok, Err, codes, decimal, Option, Result}
+use Rattle.std.specs.List.{flat_map}
 use Rattle.media.specs.Kinds.{kind_number}
 use Rattle.media.specs.Marks.{mark_number}
 use Rattle.media.specs.Memory.{Words, read_reply}
@@ -15,8 +16,7 @@ use Rattle.runner.specs.Numerals.{six_digits}
 
 -- Words, each with a space before it.
 abbrev pub words_text : List ℕ → List ℕ
-words_text [] = []
-words_text (w ∷ ws) = codes " " ++ (six_digits w ++ words_text ws)
+words_text = flat_map (λ w. codes " " ++ six_digits w)
 
 -- A sector: its mark and its words; refused with 14 where there is none.
 abbrev pub sector_text : Option Sector → List ℕ

@@ -30,8 +30,7 @@ impl fmt::Display for RefusedText {
     ghost output = { λ x. Some (refused_text x.0) };
 
     fn fmt<W: fmt::Write>(&self, f: &mut fmt::Formatter<W>) -> fmt::Result {
-        let number = self.0;
-        write!(f, "refused {number}")
+        write!(f, "refused {}", self.0)
     }
 }
 
@@ -39,11 +38,14 @@ impl fmt::Display for PassageText {
     ghost output = { λ x. Some (passage_text x.0) };
 
     fn fmt<W: fmt::Write>(&self, f: &mut fmt::Formatter<W>) -> fmt::Result {
-        let unit = self.0.unit;
-        let pack = self.0.pack;
-        let block = self.0.block;
-        let address = LongOctal(self.0.address);
-        let words = self.0.words;
+        let Passage {
+            unit,
+            pack,
+            block,
+            address,
+            words,
+        } = self.0;
+        let address = LongOctal(address);
         write!(
             f,
             " unit {unit} pack {pack} block {block} address {address} words {words}"
@@ -57,18 +59,9 @@ impl fmt::Display for MoveText {
     fn fmt<W: fmt::Write>(&self, f: &mut fmt::Formatter<W>) -> fmt::Result {
         match self.0 {
             Move::Nothing => write!(f, "nothing"),
-            Move::Fetched(passage) => {
-                let passage = PassageText(passage);
-                write!(f, "fetched{passage}")
-            }
-            Move::Stored(passage) => {
-                let passage = PassageText(passage);
-                write!(f, "stored{passage}")
-            }
-            Move::Compared(passage) => {
-                let passage = PassageText(passage);
-                write!(f, "compared{passage}")
-            }
+            Move::Fetched(passage) => write!(f, "fetched{}", PassageText(passage)),
+            Move::Stored(passage) => write!(f, "stored{}", PassageText(passage)),
+            Move::Compared(passage) => write!(f, "compared{}", PassageText(passage)),
         }
     }
 }
@@ -77,9 +70,8 @@ impl fmt::Display for ReportText {
     ghost output = { λ x. Some (report_text x.0) };
 
     fn fmt<W: fmt::Write>(&self, f: &mut fmt::Formatter<W>) -> fmt::Result {
-        let ended: u8 = if self.0.ended { 1 } else { 0 };
-        let moved = MoveText(self.0.moved);
-        write!(f, "ended {ended} moved {moved}")
+        let Report { ended, moved } = self.0;
+        write!(f, "ended {} moved {}", u8::from(ended), MoveText(moved))
     }
 }
 
@@ -88,23 +80,11 @@ impl fmt::Display for AnswerText {
 
     fn fmt<W: fmt::Write>(&self, f: &mut fmt::Formatter<W>) -> fmt::Result {
         match self.0 {
-            Answer::Word(word) => {
-                let word = Octal(u32::from(word));
-                write!(f, "{word}")
-            }
+            Answer::Word(word) => write!(f, "{}", Octal(u32::from(word))),
             Answer::Done => write!(f, "done"),
-            Answer::Vector(vector) => {
-                let vector = PlainOctal(vector);
-                write!(f, "vector {vector}")
-            }
-            Answer::Ticked(report) => {
-                let report = ReportText(report);
-                write!(f, "{report}")
-            }
-            Answer::Refused(refusal) => {
-                let refused = RefusedText(refusal.number());
-                write!(f, "{refused}")
-            }
+            Answer::Vector(vector) => write!(f, "vector {}", PlainOctal(vector)),
+            Answer::Ticked(report) => write!(f, "{}", ReportText(report)),
+            Answer::Refused(refusal) => write!(f, "{}", RefusedText(refusal.number())),
         }
     }
 }

@@ -5,6 +5,7 @@ mod answers;
 mod benches;
 mod looks;
 mod numerals;
+mod rooms;
+mod sessions;
 mod steps;
-mod texts;
 pub mod transcripts;

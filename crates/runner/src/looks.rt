@@ -1,15 +1,14 @@
 // What a look shows.
 ghost use Rattle.std.specs.Prelude.{◌≡◌, ◌++◌, Some, string_bytes, OnOk};
 ghost use Rattle.media.specs.Shelf.{kind_reply};
-ghost use Rattle.rl11.specs.Machine.{machine_of};
 ghost use Rattle.runner.specs.Looks.{words_text, sector_text, kind_text, cell_text, cells_text, memory_text, look_text};
+ghost use Rattle.runner.specs.Sessions.{Tells, unchanged};
 
 use crate::answers::RefusedText;
 use crate::numerals::Octal;
-use crate::texts::append;
+use crate::sessions::Session;
 use media::memory::{BusMemory, MemoryRefusal};
 use media::shelf::{SECTOR_WORDS, Shelf};
-use rl11::controller::Controller;
 use script::steps::Look;
 use std::alloc::AllocError;
 use std::fmt;
@@ -23,10 +22,7 @@ impl fmt::Display for CellText {
 
     fn fmt<W: fmt::Write>(&self, f: &mut fmt::Formatter<W>) -> fmt::Result {
         match self.0 {
-            Ok(word) => {
-                let word = Octal(u32::from(word));
-                write!(f, "{word}")
-            }
+            Ok(word) => write!(f, "{}", Octal(u32::from(word))),
             Err(_) => write!(f, "absent"),
         }
     }
@@ -37,91 +33,67 @@ fn push_words(text: &mut String, words: &[u16]) -> Result<(), AllocError>
     ensures { OnOk result (string_bytes text.new ≡ string_bytes text.old ++ words_text words.now) }
 {
     for word in words {
-        let word = Octal(u32::from(*word));
-        append(text, format_args!(" {word}"))?;
+        write!(text, " {}", Octal(u32::from(*word)))?;
     }
     Ok(())
 }
 
-// Writes the mark and the words of a sector.
-fn push_sector<S: Shelf, M: BusMemory>(
-    text: &mut String,
-    controller: &Controller<S, M>,
-    pack: u8,
-    block: u16,
-) -> Result<(), AllocError>
-    ensures { OnOk result (string_bytes text.new ≡ string_bytes text.old ++ sector_text ((S.Shelf.packs controller.now.shelf).sector pack block)) }
-{
-    let mut words = [0; SECTOR_WORDS];
-    match controller.sector_of(pack, block, &mut words) {
-        Ok(mark) => {
-            let mark = mark.number();
-            append(text, format_args!("mark {mark} words"))?;
-            push_words(text, &words)
+impl<S: Shelf, M: BusMemory> Session<S, M> {
+    // Tells the mark and the words of a sector.
+    fn look_at_sector(&mut self, pack: u8, block: u16) -> Result<(), AllocError>
+        ensures { OnOk result (Tells S.Shelf.packs M.BusMemory.contents self.old self.new (λ m. sector_text (m.packs.sector pack block)) unchanged) }
+    {
+        let mut words = [0; SECTOR_WORDS];
+        match self.controller.sector_of(pack, block, &mut words) {
+            Ok(mark) => {
+                write!(self.text, "mark {} words", mark.number())?;
+                push_words(&mut self.text, &words)
+            }
+            Err(refusal) => write!(self.text, "{}", RefusedText(refusal.number())),
         }
-        Err(refusal) => append(text, RefusedText(refusal.number())),
     }
-}
 
-// Writes the kind of a pack.
-fn push_kind<S: Shelf, M: BusMemory>(
-    text: &mut String,
-    controller: &Controller<S, M>,
-    pack: u8,
-) -> Result<(), AllocError>
-    ensures { OnOk result (string_bytes text.new ≡ string_bytes text.old ++ kind_text (kind_reply (S.Shelf.packs controller.now.shelf) pack)) }
-{
-    match controller.kind_of(pack) {
-        Ok(kind) => append(text, kind.number()),
-        Err(refusal) => append(text, RefusedText(refusal.number())),
+    // Tells the kind of a pack.
+    fn look_at_kind(&mut self, pack: u8) -> Result<(), AllocError>
+        ensures { OnOk result (Tells S.Shelf.packs M.BusMemory.contents self.old self.new (λ m. kind_text (kind_reply m.packs pack)) unchanged) }
+    {
+        match self.controller.kind_of(pack) {
+            Ok(kind) => write!(self.text, "{}", kind.number()),
+            Err(refusal) => write!(self.text, "{}", RefusedText(refusal.number())),
+        }
     }
-}
 
-// Writes so many words of memory from an address on, each with a space before it.
-fn push_cells<S: Shelf, M: BusMemory>(
-    text: &mut String,
-    controller: &Controller<S, M>,
-    address: u32,
-    count: u32,
-) -> Result<(), AllocError>
-    ensures { OnOk result (string_bytes text.new ≡ string_bytes text.old ++ cells_text (M.BusMemory.contents controller.now.memory) address count) }
-{
-    let mut at = address;
-    for _turn in 0..count {
-        let cell = CellText(controller.word_at(at));
-        append(text, format_args!(" {cell}"))?;
-        at = at.saturating_add(2);
+    // Tells so many words of memory from an address on, each with a space before it.
+    fn look_at_cells(&mut self, address: u32, count: u32) -> Result<(), AllocError>
+        ensures { OnOk result (Tells S.Shelf.packs M.BusMemory.contents self.old self.new (λ m. cells_text m.contents address count) unchanged) }
+    {
+        let mut at = address;
+        for _turn in 0..count {
+            write!(self.text, " {}", CellText(self.controller.word_at(at)))?;
+            at = at.saturating_add(2);
+        }
+        Ok(())
     }
-    Ok(())
-}
 
-// Writes so many words of memory from an address on.
-fn push_memory<S: Shelf, M: BusMemory>(
-    text: &mut String,
-    controller: &Controller<S, M>,
-    address: u32,
-    count: u32,
-) -> Result<(), AllocError>
-    ensures { OnOk result (string_bytes text.new ≡ string_bytes text.old ++ memory_text (M.BusMemory.contents controller.now.memory) address count) }
-{
-    if count == 0 {
-        return Ok(());
+    // Tells so many words of memory from an address on.
+    fn look_at_memory(&mut self, address: u32, count: u32) -> Result<(), AllocError>
+        ensures { OnOk result (Tells S.Shelf.packs M.BusMemory.contents self.old self.new (λ m. memory_text m.contents address count) unchanged) }
+    {
+        if count == 0 {
+            return Ok(());
+        }
+        write!(self.text, "{}", CellText(self.controller.word_at(address)))?;
+        self.look_at_cells(address.saturating_add(2), count - 1)
     }
-    append(text, CellText(controller.word_at(address)))?;
-    push_cells(text, controller, address.saturating_add(2), count - 1)
-}
 
-/// Writes what a look shows.
-pub(crate) fn push_look<S: Shelf, M: BusMemory>(
-    text: &mut String,
-    controller: &Controller<S, M>,
-    look: Look,
-) -> Result<(), AllocError>
-    ensures { OnOk result (string_bytes text.new ≡ string_bytes text.old ++ look_text look (machine_of S.Shelf.packs M.BusMemory.contents controller.now)) }
-{
-    match look {
-        Look::Sector { pack, block } => push_sector(text, controller, pack, block),
-        Look::Memory { address, count } => push_memory(text, controller, address, count),
-        Look::Kind { pack } => push_kind(text, controller, pack),
+    /// Tells what a look shows.
+    pub(crate) fn look(&mut self, look: Look) -> Result<(), AllocError>
+        ensures { OnOk result (Tells S.Shelf.packs M.BusMemory.contents self.old self.new (look_text look) unchanged) }
+    {
+        match look {
+            Look::Sector { pack, block } => self.look_at_sector(pack, block),
+            Look::Memory { address, count } => self.look_at_memory(address, count),
+            Look::Kind { pack } => self.look_at_kind(pack),
+        }
     }
 }

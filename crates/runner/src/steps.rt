@@ -2,58 +2,44 @@
 ghost use Rattle.std.specs.Prelude.{◌≡◌, ◌++◌, map, string_bytes, OnOk};
 ghost use Rattle.rl11.specs.Machine.{machine_of};
 ghost use Rattle.script.specs.Scripts.{told_by};
+ghost use Rattle.runner.specs.Sessions.{Tells};
 ghost use Rattle.runner.specs.Steps.{step_text, after_step, line_text, run_text};
 
 use crate::answers::AnswerText;
-use crate::looks::push_look;
-use crate::texts::append;
+use crate::sessions::Session;
 use media::memory::BusMemory;
 use media::shelf::Shelf;
-use rl11::controller::Controller;
 use script::scripts::StepLine;
 use script::steps::Step;
 use std::alloc::AllocError;
 
-// Runs a step, and writes what it tells.
-fn push_told<S: Shelf, M: BusMemory>(
-    text: &mut String,
-    controller: &mut Controller<S, M>,
-    step: Step,
-) -> Result<(), AllocError>
-    ensures told { OnOk result (string_bytes text.new ≡ string_bytes text.old ++ step_text step (machine_of S.Shelf.packs M.BusMemory.contents controller.old)) }
-    ensures after { machine_of S.Shelf.packs M.BusMemory.contents controller.new ≡ after_step step (machine_of S.Shelf.packs M.BusMemory.contents controller.old) }
-{
-    match step {
-        Step::Call(call) => append(text, AnswerText(controller.send(call))),
-        Step::Look(look) => push_look(text, controller, look),
+impl<S: Shelf, M: BusMemory> Session<S, M> {
+    // Runs a step, and tells its answer or what it shows.
+    fn step(&mut self, step: Step) -> Result<(), AllocError>
+        ensures { OnOk result (Tells S.Shelf.packs M.BusMemory.contents self.old self.new (step_text step) (after_step step)) }
+    {
+        match step {
+            Step::Call(call) => write!(self.text, "{}", AnswerText(self.controller.send(call))),
+            Step::Look(look) => self.look(look),
+        }
     }
-}
 
-// Runs a step, and writes its line.
-fn push_step<S: Shelf, M: BusMemory>(
-    text: &mut String,
-    controller: &mut Controller<S, M>,
-    step: &StepLine,
-) -> Result<(), AllocError>
-    ensures { OnOk result ((string_bytes text.new ≡ string_bytes text.old ++ line_text (told_by step.now) (machine_of S.Shelf.packs M.BusMemory.contents controller.old)) × (machine_of S.Shelf.packs M.BusMemory.contents controller.new ≡ after_step step.now.step (machine_of S.Shelf.packs M.BusMemory.contents controller.old))) }
-{
-    let echo = step.echo.as_str();
-    append(text, format_args!("{echo} -> "))?;
-    push_told(text, controller, step.step)?;
-    append(text, "\n")?;
-    Ok(())
-}
-
-/// Runs steps, and writes their lines.
-pub(crate) fn push_steps<S: Shelf, M: BusMemory>(
-    text: &mut String,
-    controller: &mut Controller<S, M>,
-    steps: &[StepLine],
-) -> Result<(), AllocError>
-    ensures { OnOk result (string_bytes text.new ≡ string_bytes text.old ++ run_text (map told_by steps.now) (machine_of S.Shelf.packs M.BusMemory.contents controller.old)) }
-{
-    for step in steps {
-        push_step(text, controller, step)?;
+    // Runs a step, and tells its line.
+    fn line(&mut self, line: &StepLine) -> Result<(), AllocError>
+        ensures { OnOk result (Tells S.Shelf.packs M.BusMemory.contents self.old self.new (line_text (told_by line.now)) (after_step line.now.step)) }
+    {
+        write!(self.text, "{} -> ", line.echo)?;
+        self.step(line.step)?;
+        self.text.push('\n')
     }
-    Ok(())
+
+    /// Runs steps, and tells their lines.
+    pub(crate) fn run(&mut self, steps: &[StepLine]) -> Result<(), AllocError>
+        ensures { OnOk result (string_bytes self.new.text ≡ string_bytes self.old.text ++ run_text (map told_by steps.now) (machine_of S.Shelf.packs M.BusMemory.contents self.old.controller)) }
+    {
+        for step in steps {
+            self.line(step)?;
+        }
+        Ok(())
+    }
 }

@@ -1,4 +1,0 @@
-mod Decks
-mod Lines
-mod Lists
-mod Pokes

@@ -1,0 +1,5 @@
+use Rattle.std.proofs.Common.{sym}
+use Rattle.runner.proofs.benches.Bench.refused_drives.Goals as goal
+
+pub returns : goal.returns
+returns c = let e = sym c.number.ensures in simp e c.format.ensures.ok
