@@ -80,7 +80,7 @@ impl fmt::Display for AnswerText {
 
     fn fmt<W: fmt::Write>(&self, f: &mut fmt::Formatter<W>) -> fmt::Result {
         match self.0 {
-            Answer::Word(word) => write!(f, "{}", Octal(u32::from(word))),
+            Answer::Word(word) => write!(f, "{}", Octal(word)),
             Answer::Done => write!(f, "done"),
             Answer::Vector(vector) => write!(f, "vector {}", PlainOctal(vector)),
             Answer::Ticked(report) => write!(f, "{}", ReportText(report)),

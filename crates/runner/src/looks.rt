@@ -22,7 +22,7 @@ impl fmt::Display for CellText {
 
     fn fmt<W: fmt::Write>(&self, f: &mut fmt::Formatter<W>) -> fmt::Result {
         match self.0 {
-            Ok(word) => write!(f, "{}", Octal(u32::from(word))),
+            Ok(word) => write!(f, "{}", Octal(word)),
             Err(_) => write!(f, "absent"),
         }
     }
@@ -33,7 +33,7 @@ fn push_words(text: &mut String, words: &[u16]) -> Result<(), AllocError>
     ensures { OnOk result (string_bytes text.new ≡ string_bytes text.old ++ words_text words.now) }
 {
     for word in words {
-        write!(text, " {}", Octal(u32::from(*word)))?;
+        write!(text, " {}", Octal(*word))?;
     }
     Ok(())
 }
