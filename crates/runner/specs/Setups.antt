@@ -1,7 +1,7 @@
 -- What a script runs on, and what it tells where it cannot be run.
 use Rattle.std.specs.Prelude.{ℕ, ◌-◌, ◌*◌, List, [], ◌∷◌, ◌++◌, map, length, replicate, is_ok, Some, None, Ok, Err, codes, decimal, Option, Result, slice_index, if◌then◌else◌}
 use Rattle.std.specs.List.{slice_get}
-use Rattle.std.specs.Option.{option_map, unwrap_or}
+use Rattle.std.specs.Option.{option_map_or}
 use Rattle.media.specs.Kinds.{kind_of, blocks_of}
 use Rattle.media.specs.Memory.{Words, write_reply, after_write}
 use Rattle.media.specs.Shelf.{Packs}
@@ -75,7 +75,7 @@ on_shelf_text b s = on_memory_text b s (memory_made b.memory)
 
 -- How many words a flat shelf has: those of a pack of its kind, or none.
 abbrev pub flat_length : ℕ → ℕ
-flat_length k = unwrap_or (option_map (λ kind. blocks_of kind * 128) (kind_of k)) 0
+flat_length k = option_map_or (λ kind. blocks_of kind * 128) (kind_of k) 0
 
 -- A card of a script as a shelf has it.
 abbrev pub shelf_card : CardLine → Card

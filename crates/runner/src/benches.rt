@@ -31,10 +31,9 @@ pub(crate) struct Bench {
 fn poke<M: BusMemory>(memory: &mut M, pokes: &[PokeLine]) -> Result<(), PokeLine>
     ensures { MatchResult result (λ _. poked_memory (M.BusMemory.contents memory.old) pokes.now ≡ Ok (M.BusMemory.contents memory.new)) (λ p. poked_memory (M.BusMemory.contents memory.old) pokes.now ≡ Err p) }
 {
+    // `try_for_each` was tried here, and the proof did not close.
     for poke in pokes {
-        memory
-            .write(poke.address, poke.word)
-            .map_err(|_| *poke)?;
+        memory.write(poke.address, poke.word).map_err(|_| *poke)?;
     }
     Ok(())
 }

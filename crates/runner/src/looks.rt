@@ -67,6 +67,7 @@ impl<S: Shelf, M: BusMemory> Session<S, M> {
     fn look_at_cells(&mut self, address: u32, count: u32) -> Result<(), AllocError>
         ensures { OnOk result (Tells S.Shelf.packs M.BusMemory.contents self.old self.new (λ m. cells_text m.contents address count) unchanged) }
     {
+        // No range with a step says this: after the last address of 32 bits comes the same again.
         let mut at = address;
         for _turn in 0..count {
             write!(self.text, " {}", CellText(self.controller.word_at(at)))?;

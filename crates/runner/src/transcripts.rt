@@ -14,6 +14,7 @@ pub fn transcript(heap: Global, text: &[u8]) -> Result<String, AllocError>
     match read_script(heap, text) {
         Ok(script) => Bench { heap, script }.told(),
         Err(ScriptError::Line(fault)) => format!(in heap; "{fault}\n"),
+        // No `?` gives this error: of a script's two errors only this one is an `AllocError`.
         Err(ScriptError::NoMemory) => Err(AllocError),
     }
 }

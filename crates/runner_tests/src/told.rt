@@ -6,13 +6,9 @@ use std::test::Fail;
 
 // What is told of a script is this text.
 fn tells(rt: &impl Abort, heap: Global, script: &[u8], told: &str) -> Result<(), Fail> {
-    match transcript(heap, script) {
-        Ok(text) => {
-            assert_eq!(rt; text.as_str(), told);
-            Ok(())
-        },
-        Err(_) => Err(Fail::new("no memory")),
-    }
+    let text = transcript(heap, script).map_err(|_| Fail::new("no memory"))?;
+    assert_eq!(rt; text.as_str(), told);
+    Ok(())
 }
 
 #[test]
