@@ -5,7 +5,7 @@ use Rattle.std.specs.Fmt.{digit_glyph, digits, digits_onto, format_spec, padded_
 use Rattle.std.proofs.lemmas.Fmt.{decimal_digit}
 use Rattle.std.proofs.lemmas.Grind.{replicate_next}
 use borrow.Author.Tests.{lt-ltb, ne_eqb, ltb-true, ltb-false}
-use Rattle.runner.specs.Numerals.{digit_at, six_digits, high_digit, plain_octal, long_octal}
+use Rattle.runner.specs.Numerals.{six_digits, high_digit, plain_octal, long_octal}
 
 -- the octal digits of a number, none of 0; `k` bounds how many are written
 abbrev front : ℕ → ℕ → List ℕ
