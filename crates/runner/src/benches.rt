@@ -79,11 +79,11 @@ impl Bench {
     {
         match poke(&mut memory, self.script.pokes.as_slice()) {
             Ok(()) => self.start(shelf, memory),
-            Err(poke) => {
-                let line = poke.line;
-                let address = LongOctal(poke.address);
-                format!(in self.heap; "line {line}: there is no memory word at {address}\n")
-            }
+            Err(poke) => format!(in self.heap;
+                "line {}: there is no memory word at {}\n",
+                poke.line,
+                LongOctal(poke.address)
+            ),
         }
     }
 
@@ -131,8 +131,7 @@ impl Bench {
     {
         match self.script.cards.get(room_for(self.script.shelf)).copied() {
             Some(card) => {
-                let line = card.line;
-                format!(in self.heap; "line {line}: there is no room for this card\n")
+                format!(in self.heap; "line {}: there is no room for this card\n", card.line)
             }
             None => self.on_bench(),
         }
