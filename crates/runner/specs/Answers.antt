@@ -1,8 +1,8 @@
 -- The answers of a controller as text.
-use Rattle.std.specs.Prelude.{ℕ, List, ◌++◌, codes, decimal, if◌then◌else◌}
+use Rattle.std.specs.Prelude.{ℕ, List, ◌++◌, Ok, Err, codes, decimal, if◌then◌else◌}
 use Rattle.exchanges.specs.Refusals.{refusal_number}
-use Rattle.exchanges.specs.declared.calls.Answer.{Answer}
-use Rattle.exchanges.specs.declared.calls.Answer.TheVariants.{Word, Done, Vector, Ticked, Refused}
+use Rattle.exchanges.specs.Calls.{Answer}
+use Rattle.exchanges.specs.declared.calls.Reply.TheVariants.{Word, Done, Vector, Ticked}
 use Rattle.exchanges.specs.declared.calls.Move.{Move}
 use Rattle.exchanges.specs.declared.calls.Move.TheVariants.{Nothing, Fetched, Stored, Compared}
 use Rattle.exchanges.specs.declared.calls.Passage.{Passage}
@@ -30,8 +30,8 @@ report_text r = codes "ended " ++ (decimal (if r.ended then 1 else 0) ++ (codes 
 
 -- What is told of an answer.
 abbrev pub answer_text : Answer → List ℕ
-answer_text (Word w) = six_digits w
-answer_text Done = codes "done"
-answer_text (Vector v) = codes "vector " ++ plain_octal v
-answer_text (Ticked r) = report_text r
-answer_text (Refused e) = refused_text (refusal_number e)
+answer_text (Ok (Word w)) = six_digits w
+answer_text (Ok Done) = codes "done"
+answer_text (Ok (Vector v)) = codes "vector " ++ plain_octal v
+answer_text (Ok (Ticked r)) = report_text r
+answer_text (Err e) = refused_text (refusal_number e)

@@ -79,7 +79,7 @@ flat_length k = option_map_or (λ kind. blocks_of kind * 128) (kind_of k) 0
 
 -- A card of a script as a shelf has it.
 abbrev pub shelf_card : CardLine → Card
-shelf_card c = card_of c.card.pack c.card.block c.card.mark c.card.words
+shelf_card c = c.card
 
 -- A free card.
 abbrev pub free_card : Card

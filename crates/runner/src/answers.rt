@@ -3,7 +3,7 @@ ghost use Rattle.std.specs.Prelude.{Some};
 ghost use Rattle.runner.specs.Answers.{refused_text, passage_text, move_text, report_text, answer_text};
 
 use crate::numerals::{LongOctal, Octal, PlainOctal};
-use exchanges::calls::{Answer, Move, Passage, Report};
+use exchanges::calls::{Answer, Move, Passage, Reply, Report};
 use std::fmt;
 
 /// A refusal, by its number.
@@ -80,11 +80,11 @@ impl fmt::Display for AnswerText {
 
     fn fmt<W: fmt::Write>(&self, f: &mut fmt::Formatter<W>) -> fmt::Result {
         match self.0 {
-            Answer::Word(word) => write!(f, "{}", Octal(word)),
-            Answer::Done => write!(f, "done"),
-            Answer::Vector(vector) => write!(f, "vector {}", PlainOctal(vector)),
-            Answer::Ticked(report) => write!(f, "{}", ReportText(report)),
-            Answer::Refused(refusal) => write!(f, "{}", RefusedText(refusal.number())),
+            Ok(Reply::Word(word)) => write!(f, "{}", Octal(word)),
+            Ok(Reply::Done) => write!(f, "done"),
+            Ok(Reply::Vector(vector)) => write!(f, "vector {}", PlainOctal(vector)),
+            Ok(Reply::Ticked(report)) => write!(f, "{}", ReportText(report)),
+            Err(refusal) => write!(f, "{}", RefusedText(u8::from(refusal))),
         }
     }
 }

@@ -44,7 +44,7 @@ impl Bench {
         ensures { IfOk result (λ text. string_bytes text ≡ refused_drives self.now.script.drives refusal) }
     {
         let [first, second, third, fourth] = self.script.drives;
-        let refused = RefusedText(refusal.number());
+        let refused = RefusedText(u8::from(refusal));
         format!(in self.heap; "drives {first} {second} {third} {fourth} -> {refused}\n")
     }
 

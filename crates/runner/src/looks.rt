@@ -46,10 +46,10 @@ impl<S: Shelf, M: BusMemory> Session<S, M> {
         let mut words = [0; SECTOR_WORDS];
         match self.controller.sector_of(pack, block, &mut words) {
             Ok(mark) => {
-                write!(self.text, "mark {} words", mark.number())?;
+                write!(self.text, "mark {} words", u8::from(mark))?;
                 push_words(&mut self.text, &words)
             }
-            Err(refusal) => write!(self.text, "{}", RefusedText(refusal.number())),
+            Err(refusal) => write!(self.text, "{}", RefusedText(u8::from(refusal))),
         }
     }
 
@@ -58,8 +58,8 @@ impl<S: Shelf, M: BusMemory> Session<S, M> {
         ensures { OnOk result (Tells S.Shelf.packs M.BusMemory.contents self.old self.new (λ m. kind_text (kind_reply m.packs pack)) unchanged) }
     {
         match self.controller.kind_of(pack) {
-            Ok(kind) => write!(self.text, "{}", kind.number()),
-            Err(refusal) => write!(self.text, "{}", RefusedText(refusal.number())),
+            Ok(kind) => write!(self.text, "{}", u8::from(kind)),
+            Err(refusal) => write!(self.text, "{}", RefusedText(u8::from(refusal))),
         }
     }
 

@@ -27,7 +27,7 @@ pub(crate) fn zeros(heap: Global, count: usize) -> Result<Vec<u16>, AllocError>
 pub(crate) fn flat_length(kind: u8) -> usize
     ensures { result ≡ flat_length kind }
 {
-    Kind::from_number(kind).map_or(0, |kind| usize::from(kind.blocks()) * SECTOR_WORDS)
+    Kind::try_from(kind).map_or(0, |kind| usize::from(kind.blocks()) * SECTOR_WORDS)
 }
 
 /// For how many cards there is room.
@@ -44,15 +44,7 @@ pub(crate) fn room_for(shelf: ShelfSetup) -> usize
 fn script_cards(heap: Global, lines: &[CardLine]) -> Result<Vec<Card>, AllocError>
     ensures { IfOk result (λ v. v.items ≡ map shelf_card lines.now) }
 {
-    lines
-        .iter()
-        .map(|line| Card {
-            pack: line.card.pack,
-            block: line.card.block,
-            mark: line.card.mark,
-            words: line.card.words,
-        })
-        .collect(heap)
+    lines.iter().map(|line| line.card).collect(heap)
 }
 
 /// The cards of a script, and free ones for the rest of the room.

@@ -2,4 +2,4 @@ use Rattle.std.proofs.Common.{sym}
 use Rattle.runner.proofs.benches.Bench.refused_drives.Goals as goal
 
 pub returns : goal.returns
-returns c = let e = sym c.number.ensures in simp e c.format.ensures.ok
+returns c = let e = sym c.from.ensures in simp e c.format.ensures.ok
