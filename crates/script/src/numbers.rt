@@ -26,10 +26,7 @@ impl Base {
     pub(crate) fn digit(self, byte: u8) -> Option<u8>
         ensures { result ≡ digit_of self byte }
     {
-        if byte < b'0' || byte - b'0' >= self.radix() {
-            return None;
-        }
-        Some(byte - b'0')
+        byte.checked_sub(b'0').filter(|digit| *digit < self.radix())
     }
 }
 
@@ -43,9 +40,7 @@ pub(crate) fn number(word: &[u8], base: Base, limit: u32) -> Result<u32, Fault>
     }
     let mut value: u64 = 0;
     for byte in word {
-        let Some(digit) = base.digit(*byte) else {
-            return Err(Fault::NotANumber);
-        };
+        let digit = base.digit(*byte).ok_or(Fault::NotANumber)?;
         // Above the limit it stays there.
         if value <= u64::from(limit) {
             value = value * u64::from(base.radix()) + u64::from(digit);

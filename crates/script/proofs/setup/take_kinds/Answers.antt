@@ -17,9 +17,9 @@ returns-in_err-kind g c f =
 
 pub loop-kind-preserved : goal.loop-kind-preserved
 loop-kind-preserved g c = (
-      λ f. rw c.take_u8.ensures.left (c.loop-kind.invariant.0 f ∙ next_kind g.row.N c.loop-kind.kind-index c.loop-kind.kind-items c.loop-kind.words c.in_ok-kind.field-0 f (omega arith) c.loop-kind.invariant.1 (sym c.take_u8.ensures.value ∙ c.in_ok-kind.was)),
-      length-set c.loop-kind.kind-items c.loop-kind.kind-index c.in_ok-kind.field-0 ∙ c.loop-kind.invariant.1,
-    )
+  λ f. rw c.take_u8.ensures.left (c.loop-kind.invariant.0 f ∙ next_kind g.row.N c.loop-kind.kind-index c.loop-kind.kind-items c.loop-kind.words c.in_ok-kind.field-0 f (omega arith) c.loop-kind.invariant.1 (sym c.take_u8.ensures.value ∙ c.in_ok-kind.was)),
+  length-set c.loop-kind.kind-items c.loop-kind.kind-index c.in_ok-kind.field-0 ∙ c.loop-kind.invariant.1,
+)
 
 pub returns : goal.returns
 returns g c f = c.loop-kind.invariant.0 f ∙ all_kinds g.row.N c.loop-kind.kind-index c.loop-kind.kind-items c.loop-kind.words f (omega arith) c.loop-kind.invariant.1
