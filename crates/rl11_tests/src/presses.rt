@@ -37,12 +37,7 @@ fn each_refusal_of_a_press_leaves_all(rt: HostRuntime) {
         Reply::Done,
     );
     declines(&rt, &mut controller, Call::Protect { unit: 3 }, 7);
-    answers(
-        &rt,
-        &mut controller,
-        Call::Protect { unit: 2 },
-        Reply::Done,
-    );
+    answers(&rt, &mut controller, Call::Protect { unit: 2 }, Reply::Done);
 }
 
 #[test]
