@@ -8,10 +8,10 @@ fn main(rt: HostRuntime) -> anyhow::Result<()> {
     bench(&rt)
 }
 
-fn bench(rt: &HostRuntime) -> anyhow::Result<()> {
+fn bench(rt: &(impl Input + Print + AllocGlobal)) -> anyhow::Result<()> {
     let heap = rt.alloc();
     let mut script = Vec::new(heap);
-    rt.stdin().read_to_end(&mut script)?;
+    rt.reader().read_to_end(&mut script)?;
     rt.print(transcript(heap, script.as_slice())?)?;
     Ok(())
 }
