@@ -81,6 +81,7 @@ pub struct Exchange {
 
 impl Move {
     /// The words that moved; all zero where none did.
+    // Not an Option: by a rule of the project a report names zeros where no word moved.
     pub fn passage(self) -> Passage
         ensures { result ≡ passage_of self }
     {

@@ -1,4 +1,5 @@
 // The address rules for C: a static library over the crate `media`, with an export for each function that C calls. host/media.h declares them.
+// C has no Kind and no Result, and each export is a function of its own, which only calls the one of its name.
 #![tactic(auto)]
 
 ghost use Rattle.std.specs.Prelude.{◌≡◌, ◌<◌, IfOk};

@@ -7,6 +7,7 @@ use exchanges::calls::{Answer, Move, Passage, Reply, Report};
 use std::fmt;
 
 /// A refusal, by its number.
+// The number alone is told, and refusals of several types are told alike.
 #[derive(Clone, Copy)]
 pub(crate) struct RefusedText(pub(crate) u8);
 

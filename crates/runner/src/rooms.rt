@@ -24,6 +24,7 @@ pub(crate) fn zeros(heap: Global, count: usize) -> Result<Vec<u16>, AllocError>
 }
 
 /// How many words a flat shelf has.
+// The kind is the number that the script has, which may be no kind's.
 pub(crate) fn flat_length(kind: u8) -> usize
     ensures { result ≡ flat_length kind }
 {
