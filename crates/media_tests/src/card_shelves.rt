@@ -1,21 +1,12 @@
 // Packs whose sectors stand on cards.
-use crate::support::{does_not_take, has_none, has_packs, holds, refused, stores, takes};
+use crate::support::{card, does_not_take, has_none, has_packs, holds, refused, stores, takes};
 use media::kinds::Kind;
-use media::shelf::{SECTOR_WORDS, Shelf};
-use shelves::cards::{Card, CardShelf, FREE};
+use media::shelf::Shelf;
+use shelves::cards::{CardShelf, FREE};
 use std::test::Fail;
 
 // Two packs, the second of the larger kind; what follows the 0 does not count.
 const TWO: [u8; 8] = [1, 2, 0, 1, 1, 1, 1, 1];
-
-fn card(pack: u8, block: u16, mark: u8, word: u16) -> Card {
-    Card {
-        pack,
-        block,
-        mark,
-        words: [word; SECTOR_WORDS],
-    }
-}
 
 #[test]
 fn packs_up_to_the_first_that_is_none(rt: HostRuntime) {

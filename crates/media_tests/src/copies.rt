@@ -1,22 +1,15 @@
 // Copies of packs: what stops them, and what they list.
-use crate::support::{RL01_WORDS, holds};
+use crate::support::{RL01_WORDS, card, holds};
 use backup::copy::{CopyError, copy_pack};
 use makes::stamp::Stamp;
 use media::kinds::Kind;
 use media::marks::Mark;
 use media::shelf::{SECTOR_WORDS, Shelf, ShelfRefusal};
-use shelves::cards::{Card, CardShelf, FREE};
+use shelves::cards::{CardShelf, FREE};
 use shelves::flat::FlatShelf;
 use std::alloc::Global;
 use std::process::Abort;
 use std::test::Fail;
-
-const NO_CARD: Card = Card {
-    pack: FREE,
-    block: 0,
-    mark: 0,
-    words: [0; SECTOR_WORDS],
-};
 
 // A pack that is the same all over, copied to the first pack of a shelf, which declines.
 fn stops<T: Shelf>(rt: &impl Abort, heap: Global, kind: Kind, to: &mut T, why: CopyError) {
@@ -26,7 +19,7 @@ fn stops<T: Shelf>(rt: &impl Abort, heap: Global, kind: Kind, to: &mut T, why: C
 
 #[test]
 fn packs_that_do_not_fit(rt: HostRuntime) -> Result<(), Fail> {
-    let mut cards = [NO_CARD; 2];
+    let mut cards = [card(FREE, 0, 0, 0); 2];
     let mut other = CardShelf::new([2, 0, 0, 0, 0, 0, 0, 0], &mut cards);
     stops(
         &rt,
@@ -50,7 +43,7 @@ fn packs_that_do_not_fit(rt: HostRuntime) -> Result<(), Fail> {
 
 #[test]
 fn cards_that_run_out(rt: HostRuntime) -> Result<(), Fail> {
-    let mut cards = [NO_CARD; 3];
+    let mut cards = [card(FREE, 0, 0, 0); 3];
     let mut few = CardShelf::new([2, 1, 0, 0, 0, 0, 0, 0], &mut cards);
     stops(
         &rt,
@@ -65,19 +58,7 @@ fn cards_that_run_out(rt: HostRuntime) -> Result<(), Fail> {
 
 #[test]
 fn marked_sectors_are_listed(rt: HostRuntime) -> Result<(), Fail> {
-    let mut cards = [NO_CARD; 2];
-    cards[0] = Card {
-        pack: 0,
-        block: 9,
-        mark: 3,
-        words: [7; SECTOR_WORDS],
-    };
-    cards[1] = Card {
-        pack: 0,
-        block: 5,
-        mark: 0,
-        words: [7; SECTOR_WORDS],
-    };
+    let mut cards = [card(0, 9, 3, 7), card(0, 5, 0, 7)];
     let source = CardShelf::new([1, 0, 0, 0, 0, 0, 0, 0], &mut cards);
     let mut words = vec![in rt.alloc(); 1; RL01_WORDS]?;
     let mut target = FlatShelf::new(1, &mut words);

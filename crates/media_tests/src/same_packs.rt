@@ -1,15 +1,13 @@
 // Whether packs of two shelves are the same.
-use crate::support::RL01_WORDS;
+use crate::support::{RL01_WORDS, card};
 use media::same::same;
 use media::shelf::{SECTOR_WORDS, Shelf, ShelfRefusal};
-use shelves::cards::{Card, CardShelf, FREE};
+use shelves::cards::{CardShelf, FREE};
 use shelves::flat::FlatShelf;
 use std::process::Abort;
 use std::test::Fail;
 
 const NO_PACK: ShelfRefusal = ShelfRefusal::NoPack;
-
-const CLEAR: [u16; SECTOR_WORDS] = [0; SECTOR_WORDS];
 
 // What two packs of two shelves have to say, whichever comes first.
 fn both_ways<L: Shelf, R: Shelf>(
@@ -22,15 +20,6 @@ fn both_ways<L: Shelf, R: Shelf>(
 ) {
     assert_eq!(rt; same(left, p, right, q), wanted);
     assert_eq!(rt; same(right, q, left, p), wanted);
-}
-
-fn card(pack: u8, block: u16, mark: u8) -> Card {
-    Card {
-        pack,
-        block,
-        mark,
-        words: CLEAR,
-    }
 }
 
 #[test]
@@ -51,14 +40,14 @@ fn flat_packs(rt: HostRuntime) -> Result<(), Fail> {
 #[test]
 fn a_flat_pack_and_one_on_cards(rt: HostRuntime) -> Result<(), Fail> {
     let mut words = vec![in rt.alloc(); 0; RL01_WORDS]?;
-    let mut cards = [card(1, 20_479, 0), card(0, 0, 0)];
+    let mut cards = [card(1, 20_479, 0, 0), card(0, 0, 0, 0)];
     let flat = FlatShelf::new(1, &mut words);
     let mut shelf = CardShelf::new([1, 1, 2, 0, 0, 0, 0, 0], &mut cards);
     shelf.store(0, 0, &[6; SECTOR_WORDS])?;
     both_ways(&rt, &flat, 0, &shelf, 0, Ok(false));
     both_ways(&rt, &flat, 0, &shelf, 1, Ok(true));
     both_ways(&rt, &flat, 0, &shelf, 2, Ok(false));
-    shelf.store(0, 0, &CLEAR)?;
+    shelf.store(0, 0, &[0; SECTOR_WORDS])?;
     both_ways(&rt, &flat, 0, &shelf, 0, Ok(true));
     Ok(())
 }
@@ -66,7 +55,7 @@ fn a_flat_pack_and_one_on_cards(rt: HostRuntime) -> Result<(), Fail> {
 #[test]
 fn missing_packs(rt: HostRuntime) -> Result<(), Fail> {
     let mut words = vec![in rt.alloc(); 0; RL01_WORDS]?;
-    let mut cards = [card(0, 0, 0)];
+    let mut cards = [card(0, 0, 0, 0)];
     let shelf = CardShelf::new([2, 0, 0, 0, 0, 0, 0, 0], &mut cards);
     let flat = FlatShelf::new(1, &mut words);
     both_ways(&rt, &flat, 1, &shelf, 0, Err(NO_PACK));
@@ -78,7 +67,7 @@ fn missing_packs(rt: HostRuntime) -> Result<(), Fail> {
 
 #[test]
 fn packs_of_one_shelf(rt: HostRuntime) -> Result<(), Fail> {
-    let mut cards = [card(1, 40_959, 3), card(FREE, 0, 0)];
+    let mut cards = [card(1, 40_959, 3, 0), card(FREE, 0, 0, 0)];
     let mut shelf = CardShelf::new([2, 2, 1, 0, 0, 0, 0, 0], &mut cards);
     both_ways(&rt, &shelf, 0, &shelf, 0, Ok(true));
     both_ways(&rt, &shelf, 0, &shelf, 1, Ok(true));

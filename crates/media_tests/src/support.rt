@@ -2,11 +2,22 @@
 use media::kinds::Kind;
 use media::memory::BusMemory;
 use media::shelf::{SECTOR_WORDS, Shelf, ShelfRefusal};
+use shelves::cards::Card;
 use std::process::Abort;
 use std::test::Fail;
 
 /// How many words a pack of the first kind has.
 pub(super) const RL01_WORDS: usize = 2_621_440;
+
+/// A card whose words are all this one.
+pub(super) fn card(pack: u8, block: u16, mark: u8, word: u16) -> Card {
+    Card {
+        pack,
+        block,
+        mark,
+        words: [word; SECTOR_WORDS],
+    }
+}
 
 /// A sector whose words tell their places.
 pub(super) fn counted() -> [u16; SECTOR_WORDS] {
