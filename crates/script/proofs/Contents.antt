@@ -11,10 +11,6 @@ use Rattle.script.specs.declared.numbers.Base.TheVariants.{Octal}
 abbrev pub after : List ℕ → Result (List ℕ) Fault → Result (List ℕ) Fault
 after t r = and_then r (λ xs. Ok (t ++ xs))
 
-pub after_none : (r : Result (List ℕ) Fault) → after [] r ≡ r
-after_none (Ok xs) = refl
-after_none (Err e) = refl
-
 after_one : (r : Result (List ℕ) Fault) (t : List ℕ) (x : ℕ) → after t (and_then r (λ xs. Ok (x ∷ xs))) ≡ after (t ++ (x ∷ [])) r
 after_one (Ok xs) t x = ap Ok (sym (append_assoc t (x ∷ []) xs))
 after_one (Err e) t x = refl

@@ -1,5 +1,5 @@
 -- Kinds are read one after the other.
-use Rattle.std.proofs.Common.{◌≡◌, ℕ, suc, ◌+◌, ◌-◌, ◌<◌, ◌≤◌, List, [], ◌∷◌, ◌++◌, length, take, set, Ok, Err, Result, refl, ap, ◌∙◌, append_assoc, append-nil, add-one, arith, take_all, take-suc-set}
+use Rattle.std.proofs.Common.{◌≡◌, ℕ, suc, ◌+◌, ◌-◌, ◌<◌, ◌≤◌, List, [], ◌∷◌, ◌++◌, length, take, set, Ok, Err, Result, refl, ap, append_assoc, append-nil, add-one, arith, take_all, take-suc-set}
 use Rattle.script.specs.Arguments.{argument}
 use Rattle.script.specs.Setup.{with_kinds}
 use Rattle.script.specs.Words.{others_of}

@@ -1,15 +1,9 @@
 -- The words of a line.
-use Rattle.std.specs.Prelude.{ℕ, suc, Bool, true, false, not, ◌||◌, List, [], ◌∷◌, Some, None, Option, ◌==◌, if◌then◌else◌}
-use Rattle.std.specs.Bool.{beq}
+use Rattle.std.specs.Prelude.{ℕ, Bool, true, false, not, ◌||◌, List, [], ◌∷◌, ◌==◌, if◌then◌else◌}
 
 -- A space, a tab and a carriage return are blank.
 abbrev pub is_blank : ℕ → Bool
 is_blank c = c == 32 || (c == 9 || c == 13)
-
--- How many bytes at the front are blank, or how many are not.
-abbrev pub run_length : Bool → List ℕ → ℕ
-run_length blank [] = 0
-run_length blank (c ∷ cs) = if beq (is_blank c) blank then suc (run_length blank cs) else 0
 
 -- Whether a list of bytes begins with a byte that is not blank.
 abbrev pub begins_word : List ℕ → Bool
@@ -35,11 +29,6 @@ line_words (c ∷ cs) = if c == 35 then [] else words_of (c ∷ cs)
 abbrev pub none_left : List (List ℕ) → Bool
 none_left [] = true
 none_left (w ∷ ws) = false
-
--- The first of some words.
-abbrev pub first_of : List (List ℕ) → Option (List ℕ)
-first_of [] = None
-first_of (w ∷ ws) = Some w
 
 -- All but the first of some words.
 abbrev pub others_of : List (List ℕ) → List (List ℕ)
