@@ -74,9 +74,6 @@ not_skipped Copied never = refl
 not_skipped (Skipped m) never = absurd (never m refl)
 
 -- which sectors the first n blocks and one more have
-before_first : (a r : Bool) (block : ℕ) → (a && (ltb block 0 && r)) ≡ false
-before_first a r block = grind (arith, nat_tests)
-
 elsewhere : (pack q block n : ℕ) (r : Bool) → (eqb pack q && eqb block n) ≡ false → (eqb pack q && (ltb block n && r)) ≡ (eqb pack q && (ltb block (n + 1) && r))
 elsewhere pack q block n r other = grind (arith, nat_tests)
 

@@ -4,9 +4,9 @@ use mathlib.Core.Path.{fun_ext}
 use Rattle.std.proofs.lemmas.Bool.{false≢true}
 use Rattle.std.proofs.lemmas.Grind.{common_steps}
 use Rattle.std.specs.Option.{option_map}
-use Rattle.media.specs.Shelf.{Sector, Packs, has_block, shelf_of, fetch_reply, fetch_buffer, store_reply, after_store, left_by, stored, rewritten, kept, takes_in}
+use Rattle.media.specs.Shelf.{Sector, has_block, shelf_of, store_reply, after_store, left_by, stored, rewritten, kept, takes_in}
 use Rattle.media.specs.declared.kinds.Kind.{Kind}
-use Rattle.media.specs.declared.shelf.ShelfRefusal.TheVariants.{BufferLength, NotTaking}
+use Rattle.media.specs.declared.shelf.ShelfRefusal.TheVariants.{NotTaking}
 
 -- one place, which is there or not and is the stored one or not
 at_place : (there here : Bool) (before after : Sector) (buffer : List ℕ) → (here ≡ true → after ≡ rewritten buffer before) → (there ≡ true → here ≡ false → after ≡ kept after.takes before) → cond there (Some after) None ≡ cond here (option_map (rewritten buffer) (cond there (Some before) None)) (option_map (kept (unwrap_or (option_map (λ s. s.takes) (cond there (Some after) None)) false)) (cond there (Some before) None))
@@ -20,24 +20,14 @@ pub stored_shelf : (kinds : List Kind) (before after : ℕ → ℕ → Sector) (
 stored_shelf kinds before after pack block buffer stores keeps =
     ap (λ (s : ℕ → ℕ → Option Sector). (record { kinds = kinds; sector = s })) (fun_ext (λ p. fun_ext (λ b. at_place (has_block kinds p b) (eqb p pack && eqb b block) (before p b) (after p b) buffer (stores p b) (keeps p b))))
 
--- What a fetch answers and leaves where the sector is there.
+-- What a store answers and leaves where the sector is there.
 module _ (kinds : List Kind) (content : ℕ → ℕ → Sector) (pack block : ℕ) (buffer : List ℕ) (long : length buffer ≡ 128) (there : has_block kinds pack block ≡ true) where
-  pub fetch_there : fetch_reply (shelf_of kinds content) pack block buffer ≡ Ok (content pack block).mark
-  fetch_there = grind (arith, common_steps)
-
-  pub filled_there : fetch_buffer (shelf_of kinds content) pack block buffer ≡ (content pack block).words
-  filled_there = grind (arith, common_steps)
-
   pub store_there : store_reply (shelf_of kinds content) pack block buffer ≡ cond (content pack block).takes (Ok tt) (Err NotTaking)
   store_there = grind (arith, common_steps)
 
   -- a store that is accepted leaves what `stored` says
   pub after_there : (after : ℕ → ℕ → Bool) → (content pack block).takes ≡ true → after_store (shelf_of kinds content) pack block buffer after ≡ stored (shelf_of kinds content) pack block buffer after
   after_there after takes = ap (λ r. left_by r (shelf_of kinds content) (stored (shelf_of kinds content) pack block buffer after)) (store_there ∙ ap (λ b. cond b (Ok tt) (Err NotTaking)) takes)
-
--- a fetch into a buffer that has not 128 words
-pub short_buffer : (shelf : Packs) (pack block : ℕ) (buffer : List ℕ) → (length buffer ≡ 128 → ⊥) → (Err BufferLength ≡ fetch_reply shelf pack block buffer) × (buffer ≡ fetch_buffer shelf pack block buffer)
-short_buffer shelf pack block buffer short = (grind (arith, common_steps), grind (arith, common_steps))
 
 -- a block that is there belongs to a pack that is there
 pub in_row : (kinds : List Kind) (pack block : ℕ) → has_block kinds pack block ≡ true → pack < length kinds

@@ -28,6 +28,7 @@ pub struct Unmade<S, M> {
 }
 
 impl<S: Shelf, M: BusMemory> Controller<S, M> {
+    // Kinds as numbers, since a number that is no kind's is refused.
     /// A fresh controller, with drives of the kinds with these numbers: 1 for an RL01, 2 for an RL02, 0 for none. Any other number is refused, and the shelf and the memory are handed back.
     pub fn new(kinds: [u8; UNITS], shelf: S, memory: M) -> Result<Controller<S, M>, Unmade<S, M>>
         ensures { MatchResult result

@@ -9,6 +9,7 @@ use crate::faults::Fault;
 use crate::numbers::{Base, number, number_u16};
 use crate::words::Words;
 
+// Each of these takes a word and leaves the others, which its own contract has to say.
 impl<'a> Words<'a> {
     /// Takes the next word, which has to be there.
     pub(crate) fn next_word(&mut self) -> Result<&'a [u8], Fault>

@@ -44,6 +44,7 @@ pub struct StepLine {
 /// A script.
 #[derive(Drop)]
 pub struct Script {
+    // Numbers, as ShelfSetup has them.
     /// The kinds of the four units; all zero if the script says nothing of them.
     pub drives: [u8; 4],
     /// The shelf; flat, of kind 1, if the script says nothing of it.
@@ -261,6 +262,7 @@ fn push_pokes(
             address,
             word,
         })?;
+        // No range with a step says this: after the last address of 32 bits comes the same again.
         address = address.saturating_add(2);
     }
     Ok(())

@@ -75,6 +75,7 @@ fn known_kind(number: u8) -> Option<Kind>
 }
 
 impl<'a> CardShelf<'a> {
+    // Kinds as numbers, since the first that is no kind's ends the row.
     /// A shelf of packs of these kinds over these cards.
     pub fn new(kinds: [u8; 8], cards: &'a mut [Card]) -> CardShelf<'a>
         ensures meaning { card_meaning result ≡ card_packs kinds cards.old }

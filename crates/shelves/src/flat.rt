@@ -20,6 +20,7 @@ pub struct FlatShelf<'a> {
 }
 
 impl<'a> FlatShelf<'a> {
+    // The kind as a number, since with one that is no kind's the shelf has no packs.
     /// A shelf over these words.
     pub fn new(kind: u8, words: &'a mut [u16]) -> FlatShelf<'a>
         ensures meaning { flat_meaning result ≡ flat_packs kind words.old }
