@@ -1,4 +1,5 @@
 pub mod FlatPacks
+pub mod KindRows
 pub mod Sectors
 pub mod Decks
 pub mod CardPacks
