@@ -12,7 +12,7 @@ fn at(cylinder: u16, head: u8, sector: u8) -> Place {
     }
 }
 
-// A place that is there, and the two numbers that name it.
+// A place that is there, and the two numbers that name it. Kinds are numbers in these tests, since some are no kind's.
 fn named(rt: &impl Abort, kind: u8, place: Place, block: u16, header: u16) {
     assert_eq!(rt; place.block(kind), Ok(block));
     assert_eq!(rt; place.header(kind), Ok(header));

@@ -6,7 +6,7 @@ use std::alloc::Global;
 use std::process::Abort;
 use std::test::Fail;
 
-// A shelf of this kind over so many words has no packs.
+// A shelf of the kind with this number, which may be no kind's, over so many words has no packs.
 fn none_over(rt: &impl Abort, heap: Global, kind: u8, length: usize) -> Result<(), Fail> {
     let mut words = vec![in heap; 5; length]?;
     has_none(rt, &mut FlatShelf::new(kind, &mut words));

@@ -23,6 +23,7 @@ pub(super) fn card(pack: u8, block: u16, mark: u8, word: u16) -> Card {
 pub(super) fn counted() -> [u16; SECTOR_WORDS] {
     let mut words = [0; SECTOR_WORDS];
     let mut next: u16 = 1;
+    // A loop, since each word follows from the one before it.
     for word in &mut words {
         *word = next;
         next = next.wrapping_add(1);

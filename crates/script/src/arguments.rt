@@ -9,7 +9,8 @@ use crate::faults::Fault;
 use crate::numbers::{Base, number, number_u16};
 use crate::words::Words;
 
-// Each of these takes a word and leaves the others, which its own contract has to say.
+// Each of these takes a word and leaves the others, which its own contract has to say. Numbers of 32, 16 and 8 bits are three functions:
+// one that is generic over them would need a trait of its own, to say that a number stays the same.
 impl<'a> Words<'a> {
     /// Takes the next word, which has to be there.
     pub(crate) fn next_word(&mut self) -> Result<&'a [u8], Fault>
