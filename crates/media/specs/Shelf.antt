@@ -39,7 +39,9 @@ shelf_refusal_number NotTaking = 15
 -- A buffer that has not 128 words is refused with 13, then a block that a pack of a kind lacks, or one of a missing pack, with 14.
 abbrev pub sector_check : Option Kind → ℕ → List ℕ → Result (Unit {0}) ShelfRefusal
 sector_check kind block buffer =
-    if length buffer == 128 then if unwrap_or (option_map (λ k. nat_lt block (blocks_of k)) kind) false then Ok tt else Err NoSector else Err BufferLength
+    if length buffer == 128
+    then (if unwrap_or (option_map (λ k. nat_lt block (blocks_of k)) kind) false then Ok tt else Err NoSector)
+    else Err BufferLength
 
 -- The kind of a pack; 9 where there is no such pack.
 abbrev pub kind_reply : Packs → ℕ → Result Kind ShelfRefusal

@@ -148,7 +148,7 @@ pub fn check_word(header: u16) -> u16
 fn run_word(mut crc: u16, mut word: u16) -> u16
     ensures { result ≡ crc_over crc (word_bits word) }
 {
-    // Bit after bit, by shifts and masks, as the rule of the check word has it.
+    // Bit after bit, by shifts and masks, a rule of the project; with `fold` over the places the proof did not close.
     for _turn in 0..u16::BITS {
         crc = run_bit(crc, word & 1);
         word >>= 1;

@@ -24,7 +24,7 @@ impl Mark {
     pub fn is_clean(self) -> bool
         ensures { result ≡ is_clean self }
     {
-        !self.unreadable && !self.damaged
+        self == Mark::CLEAN
     }
 }
 

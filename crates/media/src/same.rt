@@ -20,7 +20,7 @@ pub fn same<L: Shelf, R: Shelf>(
     if right.kind(right_pack)? != kind {
         return Ok(false);
     }
-    // A loop, and not `all`: a closure cannot hand on a refusal with `?`.
+    // A `for` with `?`, and not `all`, whose closure answers a bool.
     for block in 0..kind.blocks() {
         if !same_sector(left, left_pack, right, right_pack, block)? {
             return Ok(false);

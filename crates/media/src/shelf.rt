@@ -46,6 +46,7 @@ pub fn check_sector(kind: Option<Kind>, block: u16, buffer: &[u16]) -> Result<()
 }
 
 /// Up to 8 packs, numbered from 0, each of a kind; and for each sector of a pack its words, its mark and whether it takes a store.
+// A pack and a block stand side by side in each call, a rule of the project for the interface.
 pub trait Shelf {
     /// All that a shelf means.
     ghost packs: { Self → Packs };

@@ -3,6 +3,7 @@ use media::kinds::Kind;
 use media::memory::BusMemory;
 use media::shelf::{SECTOR_WORDS, Shelf, ShelfRefusal};
 use shelves::cards::Card;
+use std::array;
 use std::process::Abort;
 use std::test::Fail;
 
@@ -21,14 +22,7 @@ pub(super) fn card(pack: u8, block: u16, mark: u8, word: u16) -> Card {
 
 /// A sector whose words tell their places.
 pub(super) fn counted() -> [u16; SECTOR_WORDS] {
-    let mut words = [0; SECTOR_WORDS];
-    let mut next: u16 = 1;
-    // A loop, since each word follows from the one before it.
-    for word in &mut words {
-        *word = next;
-        next = next.wrapping_add(1);
-    }
-    words
+    array::from_fn(|place| (place as u16).wrapping_add(1))
 }
 
 /// Every word of a slice is this one.
@@ -53,7 +47,7 @@ pub(super) fn writes<M: BusMemory>(
     Ok(())
 }
 
-/// A read and a write at an address are refused with this number.
+/// A read and a write at an address are refused with this number, which tries the refusals' numbers too.
 pub(super) fn no_word<M: BusMemory>(rt: &impl Abort, memory: &mut M, address: u32, number: u8) {
     assert_eq!(rt; memory.read(address).map_err(u8::from), Err(number));
     assert_eq!(rt; memory.write(address, 0o123).map_err(u8::from), Err(number));
@@ -77,7 +71,7 @@ pub(super) fn has_none<S: Shelf>(rt: &impl Abort, shelf: &mut S) {
     refused(rt, shelf, 0, 0, 128, 14);
 }
 
-/// A fetch into so many words and a store of so many are refused with this number, and the words are left.
+/// A fetch into so many words and a store of so many are refused with this number, which tries the refusals' numbers too, and the words are left.
 pub(super) fn refused<S: Shelf>(
     rt: &impl Abort,
     shelf: &mut S,

@@ -47,11 +47,8 @@ fn restore(rt: &impl Print, heap: Global) -> anyhow::Result<()> {
 
 // Mends those of the skipped sectors whose data is damaged, and answers how many.
 fn mend_damaged(backup: &mut CardShelf, left_out: &[LeftOut]) -> anyhow::Result<usize> {
-    // Counted in a loop: a closure cannot hand on a refusal with `?`.
-    let mut mended = 0usize;
     for left in left_out.iter().filter(|left| left.mark.damaged) {
         mend_sector(backup, 0, left.block)?;
-        mended = mended.saturating_add(1);
     }
-    Ok(mended)
+    Ok(left_out.iter().filter(|left| left.mark.damaged).count())
 }

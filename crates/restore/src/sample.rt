@@ -33,7 +33,7 @@ fn sample_card(i: u16) -> Card {
 fn sample_words(first: u16) -> [u16; SECTOR_WORDS] {
     let mut words = [0; SECTOR_WORDS];
     let mut next = first;
-    // A loop, since each word follows from the one before it.
+    // A loop, since each word follows from the one before it; `successors` would be no shorter.
     for word in &mut words {
         *word = next;
         next = next.wrapping_mul(5).wrapping_add(1);

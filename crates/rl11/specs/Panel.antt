@@ -22,7 +22,12 @@ same_kind (Some j) (Some k) = kind_number j == kind_number k
 -- Whether a load press is accepted, with a pack of the offered kind or with none: 7 where there is no such drive, 8 where it is not empty, 9 where there is no such pack, 10 where it is of another kind, 11 where it is in another drive.
 abbrev pub load_check : ℕ → ℕ → Option Kind → List Drive → Result (Unit {0}) PanelRefusal
 load_check u p offered ds =
-    if not (is_there (drive_at ds u)) then Err NoDrive else if not (is_empty (drive_at ds u).state) then Err NotEmpty else if not (is_some offered) then Err NoPack else if not (same_kind offered (drive_at ds u).kind) then Err OtherKind else if is_loaded p ds then Err InAnotherDrive else Ok tt
+    if not (is_there (drive_at ds u)) then Err NoDrive
+    else if not (is_empty (drive_at ds u).state) then Err NotEmpty
+    else if not (is_some offered) then Err NoPack
+    else if not (same_kind offered (drive_at ds u).kind) then Err OtherKind
+    else if is_loaded p ds then Err InAnotherDrive
+    else Ok tt
 
 -- Whether an unload press is accepted: 7 where there is no such drive, 12 where it does not run.
 abbrev pub unload_check : ℕ → List Drive → Result (Unit {0}) PanelRefusal

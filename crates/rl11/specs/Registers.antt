@@ -13,7 +13,11 @@ use Rattle.rl11.specs.declared.registers.Register.TheVariants.{ControlStatus as 
 -- The four registers lie at 0o774400, 0o774402, 0o774404 and 0o774406.
 abbrev pub register_at : ℕ → Option Register
 register_at a =
-    if a == 0o774400 then Some CS else if a == 0o774402 then Some BusAddress else if a == 0o774404 then Some DiskAddress else if a == 0o774406 then Some Multipurpose else None
+    if a == 0o774400 then Some CS
+    else if a == 0o774402 then Some BusAddress
+    else if a == 0o774404 then Some DiskAddress
+    else if a == 0o774406 then Some Multipurpose
+    else None
 
 -- The functions are numbered from 0 to 7.
 abbrev pub function_number : Function → ℕ
@@ -29,7 +33,14 @@ function_number ReadWithoutHeaderCheck = 7
 -- The function with a number below 8.
 abbrev pub function_numbered : ℕ → Function
 function_numbered n =
-    if n == 0 then NoOp else if n == 1 then WriteCheck else if n == 2 then GetStatus else if n == 3 then Seek else if n == 4 then ReadHeader else if n == 5 then WriteData else if n == 6 then ReadData else ReadWithoutHeaderCheck
+    if n == 0 then NoOp
+    else if n == 1 then WriteCheck
+    else if n == 2 then GetStatus
+    else if n == 3 then Seek
+    else if n == 4 then ReadHeader
+    else if n == 5 then WriteData
+    else if n == 6 then ReadData
+    else ReadWithoutHeaderCheck
 
 -- Whether anything went wrong, in the controller or in the drive: any of bits 10 to 14.
 abbrev pub any_error : ControlStatus → Bool

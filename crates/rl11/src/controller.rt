@@ -27,9 +27,10 @@ pub struct Unmade<S, M> {
     pub memory: M,
 }
 
+// The clauses of a controller's calls compare machines, by `machine_of` and the meanings of shelf and memory. A model in its place would hide the shelf and the memory themselves, which `into_parts` gives back.
 impl<S: Shelf, M: BusMemory> Controller<S, M> {
-    // Kinds as numbers, since a number that is no kind's is refused.
     /// A fresh controller, with drives of the kinds with these numbers: 1 for an RL01, 2 for an RL02, 0 for none. Any other number is refused, and the shelf and the memory are handed back.
+    // Kinds as numbers, since a number that is no kind's is refused.
     pub fn new(kinds: [u8; UNITS], shelf: S, memory: M) -> Result<Controller<S, M>, Unmade<S, M>>
         ensures { MatchResult result
             (λ made. (kinds_reply kinds ≡ Ok tt) × (made.core.state ≡ fresh_state (map kind_of kinds)) × (made.shelf ≡ shelf) × (made.memory ≡ memory))

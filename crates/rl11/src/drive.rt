@@ -54,8 +54,8 @@ pub struct Drive {
 }
 
 impl DriveState {
-    // A named method, since the number leaves out the ticks of a seek.
     /// The state's number, from 0 to 7.
+    // A named method, since the number leaves out the ticks of a seek.
     pub(crate) fn number(self) -> u16
         ensures { result ≡ state_number self }
     {
@@ -97,8 +97,8 @@ impl Drive {
         }
     }
 
-    // One `match` on the state together with the event, a rule of the project for the drive.
     /// A press or a tick.
+    // One `match` on the state together with the event, a rule of the project for the drive.
     pub(crate) fn act(&mut self, event: Event)
         ensures { self.new ≡ after_event event self.old }
     {
@@ -237,8 +237,8 @@ impl Drive {
         self.state == DriveState::Brush
     }
 
-    // By shifts and `|`, a rule of the project for words of fields.
     /// The status word.
+    // By shifts and `|`, a rule of the project for words of fields.
     pub(crate) fn status_word(&self) -> u16
         ensures { result ≡ status_word self.now }
     {

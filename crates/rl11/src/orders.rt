@@ -40,8 +40,8 @@ impl From<Head> for u16 {
 }
 
 impl Head {
-    // A named method, which says what the flag means; `Head::from(true)` would not.
     /// The lower head or the upper one.
+    // A named method, which says what the flag means; `Head::from(true)` would not.
     pub(crate) fn lower_if(lower: bool) -> Head
         ensures { result ≡ head_for lower }
     {
@@ -50,8 +50,8 @@ impl Head {
 }
 
 impl SeekOrder {
-    // A named method, which says what the word is, and answers an option: a word that orders no seek is no error.
     /// The seek in a disk address; none unless its bit 0 is set and its bits 1, 3, 5 and 6 are clear.
+    // A named method, which says what the word is, and answers an option: a word that orders no seek is no error.
     pub(crate) fn from_disk_address(word: u16) -> Option<SeekOrder>
         ensures { result ≡ seek_order word }
     {
@@ -75,8 +75,8 @@ fn is_seek(word: u16) -> bool
 }
 
 impl StatusOrder {
-    // A named method that answers an option, as that of a seek.
     /// The order in the low byte of a disk address: 3 or 0o13, else none.
+    // A named method that answers an option, as that of a seek.
     pub(crate) fn from_disk_address(word: u16) -> Option<StatusOrder>
         ensures { result ≡ status_order word }
     {

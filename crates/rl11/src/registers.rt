@@ -94,8 +94,8 @@ pub struct Registers {
 }
 
 impl Register {
-    // A named method, which answers an option: an address without a register is no error, as memory may lie there.
     /// The register at a bus address.
+    // A named method, which answers an option: an address without a register is no error, as memory may lie there.
     pub(crate) fn at(address: u32) -> Option<Register>
         ensures { result ≡ register_at address }
     {
@@ -163,16 +163,12 @@ impl ControlStatus {
     fn any_error(self) -> bool
         ensures { result ≡ any_error self }
     {
-        self.faults.incomplete
-            || self.faults.check
-            || self.faults.no_header
-            || self.faults.no_memory
-            || self.drive_error
+        self.faults != Faults::NONE || self.drive_error
     }
 }
 
-// By shifts, masks and `|`, a rule of the project for words of fields.
 /// The word that has these fields; its bit 15 is set where any of bits 10 to 14 is.
+// By shifts, masks and `|`, a rule of the project for words of fields.
 impl From<ControlStatus> for u16 {
     ghost from_gives = { IsControlWord };
 
@@ -192,8 +188,8 @@ impl From<ControlStatus> for u16 {
     }
 }
 
-// By shifts and masks, a rule of the project for words of fields.
 /// The fields of a word.
+// By shifts and masks, a rule of the project for words of fields.
 impl From<u16> for ControlStatus {
     ghost use Rattle.rl11.specs.Registers.{HasControlFields};
 

@@ -38,7 +38,7 @@ pub(super) fn writes<S: Shelf, M: BusMemory>(
     answers(rt, controller, Call::Write { address, word }, Reply::Done);
 }
 
-/// A call that is refused with a number.
+/// A call that is refused with a number, which tries the refusals' numbers too.
 pub(super) fn declines<S: Shelf, M: BusMemory>(
     rt: &impl Abort,
     controller: &mut Controller<S, M>,
@@ -48,7 +48,7 @@ pub(super) fn declines<S: Shelf, M: BusMemory>(
     assert_eq!(rt; controller.send(call).map_err(u8::from), Err(number));
 }
 
-/// A make that is refused with 1, and what it hands back.
+/// A make with numbers of which one is no kind's, refused with 1, and what it hands back.
 pub(super) fn refused_make<S: Shelf + Drop, M: BusMemory + Drop>(
     rt: &impl Abort,
     kinds: [u8; 4],

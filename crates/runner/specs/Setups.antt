@@ -77,17 +77,13 @@ on_shelf_text b s = on_memory_text b s (memory_made b.memory)
 abbrev pub flat_length : ℕ → ℕ
 flat_length k = option_map_or (λ kind. blocks_of kind * 128) (kind_of k) 0
 
--- A card of a script as a shelf has it.
-abbrev pub shelf_card : CardLine → Card
-shelf_card c = c.card
-
 -- A free card.
 abbrev pub free_card : Card
 free_card = card_of 255 0 0 (replicate 128 0)
 
 -- The cards of a script, and free ones for the rest of the room.
 abbrev pub deck_made : ℕ → List CardLine → List Card
-deck_made room cs = map shelf_card cs ++ replicate (room - length cs) free_card
+deck_made room cs = map (λ c. c.card) cs ++ replicate (room - length cs) free_card
 
 -- A shelf as it is set up.
 abbrev pub shelf_made : ShelfSetup → List CardLine → Packs

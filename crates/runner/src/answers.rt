@@ -8,23 +8,23 @@ use std::fmt;
 
 /// A refusal, by its number.
 // The number alone is told, and refusals of several types are told alike.
-#[derive(Clone, Copy)]
+#[derive(Clone, Copy, PartialEq, Eq, Debug)]
 pub(crate) struct RefusedText(pub(crate) u8);
 
 /// What is told of an answer.
-#[derive(Clone, Copy)]
+#[derive(Clone, Copy, PartialEq, Eq, Debug)]
 pub(crate) struct AnswerText(pub(crate) Answer);
 
 // What is told of a tick.
-#[derive(Clone, Copy)]
+#[derive(Clone, Copy, PartialEq, Eq, Debug)]
 struct ReportText(Report);
 
 // What is told of what moved.
-#[derive(Clone, Copy)]
+#[derive(Clone, Copy, PartialEq, Eq, Debug)]
 struct MoveText(Move);
 
 // What is told of the words that passed.
-#[derive(Clone, Copy)]
+#[derive(Clone, Copy, PartialEq, Eq, Debug)]
 struct PassageText(Passage);
 
 impl fmt::Display for RefusedText {

@@ -22,7 +22,7 @@ use std::alloc::{AllocError, Global};
 
 /// A script to run, and the heap for what is told of it.
 #[derive(Drop)]
-pub(crate) struct Bench {
+pub(crate) struct Runner {
     pub(crate) heap: Global,
     pub(crate) script: Script,
 }
@@ -38,7 +38,7 @@ fn poke<M: BusMemory>(memory: &mut M, pokes: &[PokeLine]) -> Result<(), PokeLine
     Ok(())
 }
 
-impl Bench {
+impl Runner {
     // Tells that the kinds of the drives are refused.
     fn refused_drives(&self, refusal: MakeRefusal) -> Result<String, AllocError>
         ensures { IfOk result (λ text. string_bytes text ≡ refused_drives self.now.script.drives refusal) }

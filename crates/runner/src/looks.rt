@@ -14,7 +14,7 @@ use std::alloc::AllocError;
 use std::fmt;
 
 // A word of memory, if it is there.
-#[derive(Clone, Copy)]
+#[derive(Clone, Copy, PartialEq, Eq, Debug)]
 struct CellText(Result<u16, MemoryRefusal>);
 
 impl fmt::Display for CellText {
@@ -67,7 +67,7 @@ impl<S: Shelf, M: BusMemory> Session<S, M> {
     fn look_at_cells(&mut self, address: u32, count: u32) -> Result<(), AllocError>
         ensures { OnOk result (Tells S.Shelf.packs M.BusMemory.contents self.old self.new (λ m. cells_text m.contents address count) unchanged) }
     {
-        // No range with a step says this: after the last address of 32 bits comes the same again.
+        // The definition goes from one address to the next, and so does the loop.
         let mut at = address;
         for _turn in 0..count {
             write!(self.text, " {}", CellText(self.controller.word_at(at)))?;

@@ -1,19 +1,19 @@
-// Octal numbers as text.
+// Octal numbers as text, each a type of its own, so that what the formatter writes is compared with the digits of the rules once and not at each use.
 ghost use Rattle.std.specs.Prelude.{Some};
 ghost use Rattle.runner.specs.Numerals.{six_digits, plain_octal, long_octal};
 
 use std::fmt;
 
 /// A number of 16 bits in octal, of six digits.
-#[derive(Clone, Copy)]
+#[derive(Clone, Copy, PartialEq, Eq, Debug)]
 pub(crate) struct Octal(pub(crate) u16);
 
 /// A number of 16 bits in octal, without zeros in front.
-#[derive(Clone, Copy)]
+#[derive(Clone, Copy, PartialEq, Eq, Debug)]
 pub(crate) struct PlainOctal(pub(crate) u16);
 
 /// A number in octal, of six digits at least.
-#[derive(Clone, Copy)]
+#[derive(Clone, Copy, PartialEq, Eq, Debug)]
 pub(crate) struct LongOctal(pub(crate) u32);
 
 impl fmt::Display for Octal {

@@ -1,6 +1,6 @@
 // The words and the cards that a shelf and a memory are made of.
 ghost use Rattle.std.specs.Prelude.{◌≡◌, map, replicate, IfOk};
-ghost use Rattle.runner.specs.Setups.{flat_length, shelf_card, room_for, deck_made};
+ghost use Rattle.runner.specs.Setups.{flat_length, room_for, deck_made};
 
 use media::kinds::Kind;
 use media::shelf::SECTOR_WORDS;
@@ -43,7 +43,7 @@ pub(crate) fn room_for(shelf: ShelfSetup) -> usize
 
 // The cards of a script.
 fn script_cards(heap: Global, lines: &[CardLine]) -> Result<Vec<Card>, AllocError>
-    ensures { IfOk result (λ v. v.items ≡ map shelf_card lines.now) }
+    ensures { IfOk result (λ v. v.items ≡ map (λ c. c.card) lines.now) }
 {
     lines.iter().map(|line| line.card).collect(heap)
 }

@@ -3,7 +3,7 @@ ghost use Rattle.std.specs.Prelude.{◌≡◌, IfOk, string_bytes};
 ghost use Rattle.script.specs.Scripts.{script_of};
 ghost use Rattle.runner.specs.Transcripts.{script_text};
 
-use crate::benches::Bench;
+use crate::benches::Runner;
 use script::scripts::{ScriptError, read_script};
 use std::alloc::{AllocError, Global};
 
@@ -12,7 +12,7 @@ pub fn transcript(heap: Global, text: &[u8]) -> Result<String, AllocError>
     ensures { IfOk result (λ told. string_bytes told ≡ script_text (script_of text.now)) }
 {
     match read_script(heap, text) {
-        Ok(script) => Bench { heap, script }.told(),
+        Ok(script) => Runner { heap, script }.told(),
         Err(ScriptError::Line(fault)) => format!(in heap; "{fault}\n"),
         // No `?` gives this error: of a script's two errors only this one is an `AllocError`.
         Err(ScriptError::NoMemory) => Err(AllocError),

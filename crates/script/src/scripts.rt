@@ -44,8 +44,8 @@ pub struct StepLine {
 /// A script.
 #[derive(Drop)]
 pub struct Script {
-    // Numbers, as ShelfSetup has them.
     /// The kinds of the four units; all zero if the script says nothing of them.
+    // Numbers, as ShelfSetup has them.
     pub drives: [u8; 4],
     /// The shelf; flat, of kind 1, if the script says nothing of it.
     pub shelf: ShelfSetup,
@@ -60,7 +60,7 @@ pub struct Script {
 }
 
 // A line of a script, with its number from 1 on.
-#[derive(Clone, Copy)]
+#[derive(Clone, Copy, PartialEq, Eq, Debug)]
 struct SourceLine<'a> {
     number: usize,
     text: &'a [u8],
@@ -98,7 +98,7 @@ impl fmt::Display for ScriptError {
 
 impl Error for ScriptError {}
 
-// Why a line is not added to a script.
+// Why a line is not added to a script. Not a ScriptError: `?` makes it of a Fault, which knows no line's number.
 #[derive(Clone, Copy, PartialEq, Eq, Debug)]
 enum LineError {
     Fault(Fault),
@@ -262,7 +262,7 @@ fn push_pokes(
             address,
             word,
         })?;
-        // No range with a step says this: after the last address of 32 bits comes the same again.
+        // The definition goes from one address to the next, and so does the loop.
         address = address.saturating_add(2);
     }
     Ok(())

@@ -11,8 +11,8 @@ use crate::words::Words;
 use media::shelf::SECTOR_WORDS;
 use shelves::cards::Card;
 
-// Kinds are the numbers that the script has, also those of no kind: what comes of them, the shelf and the controller say.
 /// A shelf of packs.
+// Kinds are the numbers that the script has, also those of no kind: what comes of them, the shelf and the controller say.
 #[derive(Clone, Copy, PartialEq, Eq, Debug)]
 pub enum ShelfSetup {
     /// One pack of this kind, all of whose words are zero.
@@ -103,7 +103,7 @@ fn take_contents(words: &mut Words) -> Result<[u16; SECTOR_WORDS], Fault>
     ensures { result ≡ filled 128 words.old }
 {
     let mut contents = [0; SECTOR_WORDS];
-    // A loop, which stops where the words end: a closure could not.
+    // With `iter_mut().zip(..)` the proof did not close.
     for place in contents.iter_mut() {
         if words.is_empty() {
             return Ok(contents);

@@ -51,8 +51,8 @@ pub(crate) fn take_load(words: &mut Words) -> Result<Step, Fault>
     words.close(Step::Call(Call::Load { unit, pack }))
 }
 
-// The two presses differ in their call alone; one function that takes the call's maker would be no shorter.
 /// An unload press: a unit.
+// The two presses differ in their call alone; one function that takes the call's maker would be no shorter.
 pub(crate) fn take_unload(words: &mut Words) -> Result<Step, Fault>
     ensures { result ≡ unload_step words.old }
 {

@@ -68,7 +68,7 @@ impl<'a> Iterator for Words<'a> {
     ghost remaining = { item_count (λ words. words) };
 
     fn next(&mut self) -> Option<&'a [u8]> {
-        // Runs of bytes, which no splitting method of a slice gives.
+        // Not `split` and `filter`: an iterator with closures is no type that the struct can name.
         let (_, line) = self.rest.split_at(word_start(self.rest)?);
         let (word, rest) = line.split_at(word_len(line));
         self.rest = rest;

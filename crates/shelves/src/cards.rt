@@ -2,7 +2,7 @@
 ghost use Rattle.std.specs.Prelude.{◌≡◌, length, is_some, find, position};
 ghost use Rattle.std.specs.List.{slice_get, take_while};
 ghost use Rattle.std.specs.Option.{option_copied};
-ghost use Rattle.shelves.specs.Cards.{is_of, is_free, overwritten, claimed, card_kinds, card_packs, card_meaning, card_after};
+ghost use Rattle.shelves.specs.Cards.{is_of, is_free, overwritten, claimed, card_packs, card_meaning, card_after};
 ghost use Rattle.shelves.specs.Laws.{card_lawful};
 ghost use Rattle.media.specs.Kinds.{kind_of};
 ghost use Rattle.media.specs.Shelf.{sector_check, store_reply, after_store, takes_in};
@@ -67,7 +67,7 @@ pub struct CardShelf<'a> {
     cards: &'a mut [Card],
 }
 
-// The kind with a number, if there is one.
+// The kind with a number, if there is one. A named function, since with a closure in its place the proof of `new` did not close.
 fn known_kind(number: u8) -> Option<Kind>
     ensures { result ≡ kind_of number }
 {
@@ -75,8 +75,8 @@ fn known_kind(number: u8) -> Option<Kind>
 }
 
 impl<'a> CardShelf<'a> {
-    // Kinds as numbers, since the first that is no kind's ends the row.
     /// A shelf of packs of these kinds over these cards.
+    // Kinds as numbers, since the first that is no kind's ends the row.
     pub fn new(kinds: [u8; 8], cards: &'a mut [Card]) -> CardShelf<'a>
         ensures meaning { card_meaning result ≡ card_packs kinds cards.old }
         ensures lent { result.cards ≡ cards.entry }
@@ -89,7 +89,7 @@ impl<'a> CardShelf<'a> {
 
     // The kind of a pack, if there is such a pack.
     fn kind_at(&self, pack: u8) -> Option<Kind>
-        ensures { result ≡ slice_get (card_kinds self.now.kinds) pack }
+        ensures { result ≡ slice_get (card_meaning self.now).kinds pack }
     {
         // With `get` on the places before `packs`, or with `filter`, the check did not find the proof.
         if usize::from(pack) < self.packs() {
@@ -108,7 +108,7 @@ impl<'a> CardShelf<'a> {
 
     // Refuses a buffer that has not 128 words, then a sector that is not there.
     fn check(&self, pack: u8, block: u16, buffer: &[u16]) -> Result<(), ShelfRefusal>
-        ensures { result ≡ sector_check (slice_get (card_kinds self.now.kinds) pack) block buffer.now }
+        ensures { result ≡ sector_check (slice_get (card_meaning self.now).kinds pack) block buffer.now }
     {
         check_sector(self.kind_at(pack), block, buffer)
     }

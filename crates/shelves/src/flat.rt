@@ -4,7 +4,7 @@ ghost use Rattle.std.specs.List.{slice_get};
 ghost use Rattle.std.specs.Option.{option_to_list};
 ghost use Rattle.std.specs.Result.{result_and};
 ghost use Rattle.shelves.specs.Laws.{flat_lawful};
-ghost use Rattle.shelves.specs.Flat.{whole_pack, flat_packs, flat_meaning, flat_after};
+ghost use Rattle.shelves.specs.Flat.{flat_packs, flat_meaning, flat_after};
 ghost use Rattle.media.specs.Shelf.{sector_check, store_reply, after_store, takes_in};
 
 use media::kinds::Kind;
@@ -20,8 +20,8 @@ pub struct FlatShelf<'a> {
 }
 
 impl<'a> FlatShelf<'a> {
-    // The kind as a number, since with one that is no kind's the shelf has no packs.
     /// A shelf over these words.
+    // The kind as a number, since with one that is no kind's the shelf has no packs.
     pub fn new(kind: u8, words: &'a mut [u16]) -> FlatShelf<'a>
         ensures meaning { flat_meaning result ≡ flat_packs kind words.old }
         ensures lent { result.words ≡ words.entry }
@@ -34,21 +34,21 @@ impl<'a> FlatShelf<'a> {
 
     // The kind of the one pack, where the slice has just its words.
     fn whole(&self) -> Option<Kind>
-        ensures { option_to_list result ≡ whole_pack self.now.words.now self.now.kind }
+        ensures { option_to_list result ≡ (flat_meaning self.now).kinds }
     {
         self.kind.filter(|kind| self.words.len() == usize::from(kind.blocks()) * SECTOR_WORDS)
     }
 
     // The kind of a pack, if there is such a pack.
     fn kind_at(&self, pack: u8) -> Option<Kind>
-        ensures { result ≡ slice_get (whole_pack self.now.words.now self.now.kind) pack }
+        ensures { result ≡ slice_get (flat_meaning self.now).kinds pack }
     {
         self.whole().filter(|_| pack == 0)
     }
 
     // Where a sector's words begin, unless the buffer or the sector is refused.
     fn start(&self, pack: u8, block: u16, buffer: &[u16]) -> Result<usize, ShelfRefusal>
-        ensures { result ≡ result_and (sector_check (slice_get (whole_pack self.now.words.now self.now.kind) pack) block buffer.now) (Ok (block * 128)) }
+        ensures { result ≡ result_and (sector_check (slice_get (flat_meaning self.now).kinds pack) block buffer.now) (Ok (block * 128)) }
     {
         check_sector(self.kind_at(pack), block, buffer)?;
         Ok(usize::from(block) * SECTOR_WORDS)

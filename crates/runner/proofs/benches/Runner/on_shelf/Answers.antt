@@ -6,7 +6,7 @@ use Rattle.script.specs.Scripts.{bench_of}
 use Rattle.script.specs.declared.setup.MemorySetup.{MemorySetup}
 use Rattle.script.specs.declared.setup.MemorySetup.TheVariants.{Stack}
 use Rattle.runner.specs.Setups.{memory_made, on_memory_text}
-use Rattle.runner.proofs.benches.Bench.on_shelf.Goals as goal
+use Rattle.runner.proofs.benches.Runner.on_shelf.Goals as goal
 
 -- a stack of two boards of zero words is what the set-up says
 stack_made : (setup : MemorySetup) (b l u : ℕ) (ls us : List ℕ) (lower upper : Words) → setup ≡ Stack b l u → ls ≡ replicate l 0 → us ≡ replicate u 0 → lower ≡ board_contents ls → upper ≡ board_contents us → stack_contents (even_border b) lower upper ≡ memory_made setup
