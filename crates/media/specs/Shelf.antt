@@ -20,9 +20,13 @@ pub record Packs : Type 0 where
   pub kinds : List Kind
   pub sector : ℕ → ℕ → Option Sector
 
+-- Whether a pack of this kind has a block; a pack that is missing has none.
+abbrev pub kind_has : Option Kind → ℕ → Bool
+kind_has kind block = unwrap_or (option_map (λ k. nat_lt block (blocks_of k)) kind) false
+
 -- Whether packs of these kinds have a block: its pack is there, and large enough.
 abbrev pub has_block : List Kind → ℕ → ℕ → Bool
-has_block kinds pack block = unwrap_or (option_map (λ k. nat_lt block (blocks_of k)) (slice_get kinds pack)) false
+has_block kinds pack block = kind_has (slice_get kinds pack) block
 
 -- A shelf has at most 8 packs, and a sector exactly where the kind of its pack has the block.
 pub record Lawful (shelf : Packs) : Type 0 where
@@ -39,9 +43,7 @@ shelf_refusal_number NotTaking = 15
 -- A buffer that has not 128 words is refused with 13, then a block that a pack of a kind lacks, or one of a missing pack, with 14.
 abbrev pub sector_check : Option Kind → ℕ → List ℕ → Result (Unit {0}) ShelfRefusal
 sector_check kind block buffer =
-    if length buffer == 128
-    then (if unwrap_or (option_map (λ k. nat_lt block (blocks_of k)) kind) false then Ok tt else Err NoSector)
-    else Err BufferLength
+    if length buffer == 128 then (if kind_has kind block then Ok tt else Err NoSector) else Err BufferLength
 
 -- The kind of a pack; 9 where there is no such pack.
 abbrev pub kind_reply : Packs → ℕ → Result Kind ShelfRefusal

@@ -236,7 +236,7 @@ impl Draft {
 // Fills a place that is still empty.
 fn set_once<T: Drop>(place: &mut Option<T>, value: T) -> Result<(), Fault>
     ensures ok { OnOk result ((place.old ≡ None) × (place.new ≡ Some value)) }
-    ensures err { IfErr result (λ fault. (fault ≡ SetupTwice) × IsSome place.old) }
+    ensures err { IfErr result (λ fault. (fault ≡ SetupTwice) × IsSome place.old × (place.new ≡ place.old)) }
 {
     if place.is_some() {
         return Err(Fault::SetupTwice);
