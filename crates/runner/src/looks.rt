@@ -41,7 +41,8 @@ fn push_words(text: &mut String, words: &[u16]) -> Result<(), AllocError>
 impl<S: Shelf, M: BusMemory> Session<S, M> {
     // Tells the mark and the words of a sector.
     fn look_at_sector(&mut self, pack: u8, block: u16) -> Result<(), AllocError>
-        ensures { OnOk result (Tells S.Shelf.packs M.BusMemory.contents self.old self.new (λ m. sector_text (m.packs.sector pack block)) unchanged) }
+        ensures told { OnOk result (Tells S.Shelf.packs M.BusMemory.contents self.old self.new (λ m. sector_text (m.packs.sector pack block)) unchanged) }
+        ensures kept { self.new.controller ≡ self.old.controller }
     {
         let mut words = [0; SECTOR_WORDS];
         match self.controller.sector_of(pack, block, &mut words) {
@@ -55,7 +56,8 @@ impl<S: Shelf, M: BusMemory> Session<S, M> {
 
     // Tells the kind of a pack.
     fn look_at_kind(&mut self, pack: u8) -> Result<(), AllocError>
-        ensures { OnOk result (Tells S.Shelf.packs M.BusMemory.contents self.old self.new (λ m. kind_text (kind_reply m.packs pack)) unchanged) }
+        ensures told { OnOk result (Tells S.Shelf.packs M.BusMemory.contents self.old self.new (λ m. kind_text (kind_reply m.packs pack)) unchanged) }
+        ensures kept { self.new.controller ≡ self.old.controller }
     {
         match self.controller.kind_of(pack) {
             Ok(kind) => write!(self.text, "{}", u8::from(kind)),
@@ -65,7 +67,8 @@ impl<S: Shelf, M: BusMemory> Session<S, M> {
 
     // Tells so many words of memory from an address on, each with a space before it.
     fn look_at_cells(&mut self, address: u32, count: u32) -> Result<(), AllocError>
-        ensures { OnOk result (Tells S.Shelf.packs M.BusMemory.contents self.old self.new (λ m. cells_text m.contents address count) unchanged) }
+        ensures told { OnOk result (Tells S.Shelf.packs M.BusMemory.contents self.old self.new (λ m. cells_text m.contents address count) unchanged) }
+        ensures kept { self.new.controller ≡ self.old.controller }
     {
         // The definition goes from one address to the next, and so does the loop.
         let mut at = address;
@@ -78,7 +81,8 @@ impl<S: Shelf, M: BusMemory> Session<S, M> {
 
     // Tells so many words of memory from an address on.
     fn look_at_memory(&mut self, address: u32, count: u32) -> Result<(), AllocError>
-        ensures { OnOk result (Tells S.Shelf.packs M.BusMemory.contents self.old self.new (λ m. memory_text m.contents address count) unchanged) }
+        ensures told { OnOk result (Tells S.Shelf.packs M.BusMemory.contents self.old self.new (λ m. memory_text m.contents address count) unchanged) }
+        ensures kept { self.new.controller ≡ self.old.controller }
     {
         if count == 0 {
             return Ok(());
@@ -89,7 +93,8 @@ impl<S: Shelf, M: BusMemory> Session<S, M> {
 
     /// Tells what a look shows.
     pub(crate) fn look(&mut self, look: Look) -> Result<(), AllocError>
-        ensures { OnOk result (Tells S.Shelf.packs M.BusMemory.contents self.old self.new (look_text look) unchanged) }
+        ensures told { OnOk result (Tells S.Shelf.packs M.BusMemory.contents self.old self.new (look_text look) unchanged) }
+        ensures kept { self.new.controller ≡ self.old.controller }
     {
         match look {
             Look::Sector { pack, block } => self.look_at_sector(pack, block),

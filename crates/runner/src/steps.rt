@@ -16,7 +16,8 @@ use std::alloc::AllocError;
 impl<S: Shelf, M: BusMemory> Session<S, M> {
     // Runs a step, and tells its answer or what it shows.
     fn step(&mut self, step: Step) -> Result<(), AllocError>
-        ensures { OnOk result (Tells S.Shelf.packs M.BusMemory.contents self.old self.new (step_text step) (after_step step)) }
+        ensures told { OnOk result (Tells S.Shelf.packs M.BusMemory.contents self.old self.new (step_text step) (after_step step)) }
+        ensures after { machine_of S.Shelf.packs M.BusMemory.contents self.new.controller ≡ after_step step (machine_of S.Shelf.packs M.BusMemory.contents self.old.controller) }
     {
         match step {
             Step::Call(call) => write!(self.text, "{}", AnswerText(self.controller.send(call))),
