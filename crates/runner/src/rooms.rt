@@ -53,6 +53,8 @@ pub(crate) fn deck(heap: Global, room: usize, lines: &[CardLine]) -> Result<Vec<
     ensures { IfOk result (λ v. v.items ≡ deck_made room lines.now) }
 {
     let mut cards = script_cards(heap, lines)?;
+    // Just so many places more, since `resize` by itself would ask for room for twice the cards of the script.
+    cards.reserve_exact(room.saturating_sub(lines.len()))?;
     cards.resize(room.max(lines.len()), FREE_CARD)?;
     Ok(cards)
 }
